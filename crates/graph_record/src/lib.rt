@@ -1,0 +1,12 @@
+//! The objects of the graph: the records of vertices and edges, and the lists that they are made of.
+#![tactic(auto)]
+
+mod edge_ids;
+mod labels;
+mod object;
+mod properties;
+
+pub use edge_ids::EdgeIds;
+pub use labels::Labels;
+pub use object::{EdgeRecord, Object, VertexRecord};
+pub use properties::Properties;
