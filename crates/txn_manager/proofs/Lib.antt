@@ -1,0 +1,2 @@
+pub mod RunningListLemmas
+pub mod TransactionsLemmas

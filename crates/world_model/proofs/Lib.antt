@@ -1,0 +1,10 @@
+pub mod Objects
+pub mod Folds
+pub mod Txns
+pub mod Lists
+pub mod Begins
+pub mod Writes
+pub mod Commits
+pub mod Coherence
+pub mod Order
+pub mod Histories

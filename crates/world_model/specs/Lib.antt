@@ -1,0 +1,5 @@
+pub mod Op
+pub mod World
+pub mod Step
+pub mod History
+pub mod Change
