@@ -1,5 +1,7 @@
-ghost use Rattle.std.specs.Prelude.{◌≡◌, []};
+ghost use Rattle.std.specs.Prelude.{◌≡◌, [], length, IfOk};
+ghost use Rattle.graph_record.specs.Ascending.{IsAscendingIds};
 
+use crate::NoMemory;
 use graph_value::EdgeId;
 use std::alloc::Global;
 use std::marker::Model;
@@ -29,5 +31,29 @@ impl EdgeIds {
         EdgeIds {
             items: Vec::new(alloc),
         }
+    }
+
+    /// How many edges there are.
+    pub fn len(&self) -> usize
+        ensures number { result ≡ length self.now }
+        ensures ascending { IsAscendingIds self.now }
+    {
+        self.items.len()
+    }
+
+    /// The ids, ascending.
+    pub fn as_slice(&self) -> &[EdgeId]
+        ensures all { result.now ≡ self.now }
+        ensures ascending { IsAscendingIds self.now }
+    {
+        self.items.as_slice()
+    }
+
+    /// The same ids, in memory of their own.
+    pub fn copy(&self, alloc: Global) -> Result<EdgeIds, NoMemory>
+        ensures { IfOk result (λ e. e ≡ self.now) }
+    {
+        let items = Vec::from_slice(alloc, self.items.as_slice())?;
+        Ok(EdgeIds { items })
     }
 }

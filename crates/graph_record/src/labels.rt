@@ -1,5 +1,7 @@
-ghost use Rattle.std.specs.Prelude.{◌≡◌, []};
+ghost use Rattle.std.specs.Prelude.{◌≡◌, [], length, IfOk};
+ghost use Rattle.graph_record.specs.Ascending.{IsAscendingNames};
 
+use crate::NoMemory;
 use graph_value::Name;
 use std::alloc::Global;
 use std::marker::Model;
@@ -28,5 +30,32 @@ impl Labels {
         Labels {
             items: Vec::new(alloc),
         }
+    }
+
+    /// How many labels there are.
+    pub fn len(&self) -> usize
+        ensures number { result ≡ length self.now }
+        ensures ascending { IsAscendingNames self.now }
+    {
+        self.items.len()
+    }
+
+    /// The labels, ascending.
+    pub fn as_slice(&self) -> &[Name]
+        ensures all { result.now ≡ self.now }
+        ensures ascending { IsAscendingNames self.now }
+    {
+        self.items.as_slice()
+    }
+
+    /// The same labels, in memory of their own.
+    pub fn copy(&self, alloc: Global) -> Result<Labels, NoMemory>
+        ensures { IfOk result (λ l. l ≡ self.now) }
+    {
+        let mut items = Vec::with_capacity(alloc, self.items.len())?;
+        for label in self.items.as_slice() {
+            items.push(label.copy(alloc)?)?;
+        }
+        Ok(Labels { items })
     }
 }

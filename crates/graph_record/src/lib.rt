@@ -5,8 +5,14 @@ mod edge_ids;
 mod labels;
 mod object;
 mod properties;
+#[cfg(test)]
+mod tests;
 
 pub use edge_ids::EdgeIds;
 pub use labels::Labels;
 pub use object::{EdgeRecord, Object, VertexRecord};
 pub use properties::Properties;
+use std::alloc::AllocError;
+
+/// Memory was wanting. No contract says when this answer comes.
+pub type NoMemory = AllocError;

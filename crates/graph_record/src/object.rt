@@ -1,7 +1,7 @@
-ghost use Rattle.std.specs.Prelude.{◌≡◌};
+ghost use Rattle.std.specs.Prelude.{◌≡◌, IfOk};
 ghost use Rattle.graph_record.specs.Record.{empty_vertex};
 
-use crate::{EdgeIds, Labels, Properties};
+use crate::{EdgeIds, Labels, NoMemory, Properties};
 use graph_value::{Name, VertexId};
 use std::alloc::Global;
 
@@ -26,6 +26,18 @@ impl VertexRecord {
             ins: EdgeIds::new(alloc),
         }
     }
+
+    /// The same record, in memory of its own.
+    pub fn copy(&self, alloc: Global) -> Result<VertexRecord, NoMemory>
+        ensures { IfOk result (λ v. v ≡ self.now) }
+    {
+        Ok(VertexRecord {
+            labels: self.labels.copy(alloc)?,
+            props: self.props.copy(alloc)?,
+            outs: self.outs.copy(alloc)?,
+            ins: self.ins.copy(alloc)?,
+        })
+    }
 }
 
 /// What is kept of an edge.
@@ -37,6 +49,20 @@ pub struct EdgeRecord {
     pub props: Properties,
 }
 
+impl EdgeRecord {
+    /// The same record, in memory of its own.
+    pub fn copy(&self, alloc: Global) -> Result<EdgeRecord, NoMemory>
+        ensures { IfOk result (λ e. e ≡ self.now) }
+    {
+        Ok(EdgeRecord {
+            kind: self.kind.copy(alloc)?,
+            from: self.from,
+            to: self.to,
+            props: self.props.copy(alloc)?,
+        })
+    }
+}
+
 /// An object of the graph, as it is at some instant.
 #[derive(Debug, Drop)]
 pub enum Object {
@@ -44,4 +70,17 @@ pub enum Object {
     Dead,
     Vertex(VertexRecord),
     Edge(EdgeRecord),
+}
+
+impl Object {
+    /// The same object, in memory of its own.
+    pub fn copy(&self, alloc: Global) -> Result<Object, NoMemory>
+        ensures { IfOk result (λ o. o ≡ self.now) }
+    {
+        match self {
+            Object::Dead => Ok(Object::Dead),
+            Object::Vertex(vertex) => Ok(Object::Vertex(vertex.copy(alloc)?)),
+            Object::Edge(edge) => Ok(Object::Edge(edge.copy(alloc)?)),
+        }
+    }
 }
