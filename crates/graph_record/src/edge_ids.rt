@@ -30,4 +30,10 @@ impl EdgeIds {
             items: Vec::new(alloc),
         }
     }
+
+    pub fn as_slice(&self) -> &[EdgeId]
+        ensures { result.now ≡ self.now }
+    {
+        self.items.as_slice()
+    }
 }

@@ -29,4 +29,10 @@ impl Labels {
             items: Vec::new(alloc),
         }
     }
+
+    pub fn as_slice(&self) -> &[Name]
+        ensures { result.now ≡ self.now }
+    {
+        self.items.as_slice()
+    }
 }

@@ -2,11 +2,13 @@
 #![tactic(auto)]
 
 mod edge_ids;
+mod json;
 mod labels;
 mod object;
 mod properties;
 
 pub use edge_ids::EdgeIds;
+pub use json::object_json;
 pub use labels::Labels;
 pub use object::{EdgeRecord, Object, VertexRecord};
 pub use properties::Properties;

@@ -1,4 +1,5 @@
 ghost use Rattle.std.specs.Prelude.{◌≡◌, []};
+ghost use Rattle.graph_record.specs.Ascending.{IsAscendingProperties};
 
 use graph_value::{Name, Value};
 use std::alloc::Global;
@@ -29,5 +30,12 @@ impl Properties {
         Properties {
             items: Vec::new(alloc),
         }
+    }
+
+    pub fn as_slice(&self) -> &[(Name, Value)]
+        ensures value { result.now ≡ self.now }
+        ensures ascending { IsAscendingProperties self.now }
+    {
+        self.items.as_slice()
     }
 }
