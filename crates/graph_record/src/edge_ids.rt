@@ -31,6 +31,7 @@ impl EdgeIds {
         }
     }
 
+    /// The ids, ascending.
     pub fn as_slice(&self) -> &[EdgeId]
         ensures { result.now ≡ self.now }
     {

@@ -30,6 +30,7 @@ impl Labels {
         }
     }
 
+    /// The labels, ascending.
     pub fn as_slice(&self) -> &[Name]
         ensures { result.now ≡ self.now }
     {

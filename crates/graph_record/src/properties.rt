@@ -32,6 +32,7 @@ impl Properties {
         }
     }
 
+    /// The properties, ascending by name.
     pub fn as_slice(&self) -> &[(Name, Value)]
         ensures value { result.now ≡ self.now }
         ensures ascending { IsAscendingProperties self.now }
