@@ -1,4 +1,5 @@
 pub mod Ascending
 pub mod Place
+pub mod Json
 pub mod Record
 pub mod Graph

@@ -43,7 +43,7 @@ impl EdgeIds {
 
     /// The ids, ascending.
     pub fn as_slice(&self) -> &[EdgeId]
-        ensures all { result.now ≡ self.now }
+        ensures value { result.now ≡ self.now }
         ensures ascending { IsAscendingIds self.now }
     {
         self.items.as_slice()

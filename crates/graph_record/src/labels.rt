@@ -42,7 +42,7 @@ impl Labels {
 
     /// The labels, ascending.
     pub fn as_slice(&self) -> &[Name]
-        ensures all { result.now ≡ self.now }
+        ensures value { result.now ≡ self.now }
         ensures ascending { IsAscendingNames self.now }
     {
         self.items.as_slice()

@@ -2,6 +2,7 @@
 #![tactic(auto)]
 
 mod edge_ids;
+mod json;
 mod labels;
 mod object;
 mod properties;
@@ -9,6 +10,7 @@ mod properties;
 mod tests;
 
 pub use edge_ids::EdgeIds;
+pub use json::object_json;
 pub use labels::Labels;
 pub use object::{EdgeRecord, Object, VertexRecord};
 pub use properties::Properties;

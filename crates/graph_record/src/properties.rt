@@ -47,7 +47,7 @@ impl Properties {
 
     /// The properties, ascending by name.
     pub fn as_slice(&self) -> &[(Name, Value)]
-        ensures all { result.now ≡ self.now }
+        ensures value { result.now ≡ self.now }
         ensures ascending { IsAscendingProperties self.now }
     {
         self.items.as_slice()
