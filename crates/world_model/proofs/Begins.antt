@@ -26,11 +26,12 @@ begun_found ps p d q h = pick (find_txn ps d) (nat_eq p.caller d) (sym (find_txn
     pick None true e = inr cc
     pick None false e = absurd cc
 
-no_touch : (x : Oid) → are_touching [] x ≡ false
+-- no writes touch nothing
+pub no_touch : (x : Oid) → are_touching [] x ≡ false
 unfolding are_touching
 no_touch x = refl
 
-touching_none : (x : Oid) → are_touching [] x ≡ true → ⊥
+pub touching_none : (x : Oid) → are_touching [] x ≡ true → ⊥
 touching_none x t = false≢true (sym (no_touch x) ∙ t)
 
 below_none : (n m : ℕ) → are_below n m [] ≡ true

@@ -164,7 +164,8 @@ beyond_untouched n m x [] out below = refl
 beyond_untouched n m x (op ∷ ops) out below =
     both_false _ _ (beyond_all n m x (touches op) out (and_left_true _ _ below)) (beyond_untouched n m x ops out (and_right_true _ _ below))
 
-empty_dead : (x : Oid) → object_at empty_graph x ≡ object.Dead
+-- nothing is alive at first
+pub empty_dead : (x : Oid) → object_at empty_graph x ≡ object.Dead
 empty_dead (Vertex v) = refl
 empty_dead (Edge e) = refl
 

@@ -1,0 +1,5 @@
+pub mod VersionLists
+pub mod Drafts
+pub mod Fits
+pub mod RowPlaces
+pub mod Keeping

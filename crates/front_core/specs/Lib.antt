@@ -1,0 +1,4 @@
+pub mod Versions
+pub mod Writes
+pub mod Keeps
+pub mod Drafted

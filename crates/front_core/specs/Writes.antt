@@ -1,0 +1,7 @@
+-- stub
+use Rattle.std.specs.Prelude.{ℕ, List, [], ◌∷◌, nat_eq, if◌then◌else◌}
+use Rattle.front_core.specs.declared.writes.CallerWrites.{CallerWrites}
+
+unfoldable pub vertices_of : List CallerWrites → ℕ → List ℕ
+vertices_of [] caller = []
+vertices_of (w ∷ ws) caller = if nat_eq w.caller caller then w.vertices else vertices_of ws caller
