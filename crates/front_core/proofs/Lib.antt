@@ -1,5 +1,8 @@
+pub mod VersionsLemmas
+pub mod CommitsLemmas
 pub mod VersionLists
 pub mod Drafts
 pub mod Fits
 pub mod RowPlaces
 pub mod Keeping
+pub mod Committing

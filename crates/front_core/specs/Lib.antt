@@ -1,4 +1,6 @@
 pub mod Versions
 pub mod Writes
+pub mod Commits
 pub mod Keeps
 pub mod Drafted
+pub mod Finished

@@ -2,6 +2,8 @@
 use Rattle.std.specs.Prelude.{ℕ, List, [], ◌∷◌, ◌++◌, Option, Some, None, Bool, false, filter, nat_lt, nat_eq, if◌then◌else◌}
 use Rattle.graph_record.specs.declared.object.Object.{Object}
 use Rattle.graph_record.specs.declared.object.Object.TheVariants.{Dead}
+use Rattle.graph_value.specs.declared.value.Value.{Value}
+use Rattle.world_model.specs.Change.{with_property}
 use Rattle.front_core.specs.declared.version.Version.{Version}
 use Rattle.front_core.specs.declared.version.Draft.{Draft}
 
@@ -46,3 +48,8 @@ seen_object caller start r = seen_or caller start r.committed r.draft
 abbrev pub committed_as : ℕ → List Version → Option Draft → Versions
 committed_as ts committed None = record { committed = committed; draft = None }
 committed_as ts committed (Some d) = record { committed = committed ++ record { ts = ts; object = d.object } ∷ []; draft = None }
+
+-- the draft with the property set, where its object is alive
+abbrev pub draft_with : List ℕ → Value → Option Draft → Option Draft
+draft_with name value None = None
+draft_with name value (Some d) = Some (record d { object = with_property name value d.object })
