@@ -1,2 +1,3 @@
 pub mod VersionsLemmas
 pub mod CommitsLemmas
+pub mod WritesLemmas
