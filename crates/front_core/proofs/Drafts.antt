@@ -23,6 +23,7 @@ use Rattle.world_model.proofs.Lists.{bare, start_of-map}
 use Rattle.front_core.specs.declared.version.Version.{Version}
 use Rattle.front_core.specs.declared.version.Draft.{Draft}
 use Rattle.front_core.specs.Versions.{Versions, newest_stamp, newest_object, object_below, seen_object, seen_or}
+use Rattle.front_core.specs.Decision.{other_start}
 use Rattle.front_core.specs.Keeps.{Kept, FitsDraft, FitsRow, versions_of, versions_from}
 use Rattle.front_core.proofs.VersionLists.{versions_at, versions_from-object, newest_object-or, newest_below, newest_stamp-touch, newest_or}
 
@@ -73,11 +74,6 @@ other_found (r ∷ rs) c x q apart h =
 
 pub differ_of : (a b : ℕ) → nat_eq a b ≡ false → a ≢ b
 differ_of a b h same = false≢true (sym h ∙ test_of a b same)
-
--- the start of the other writer, as its draft tells it
-abbrev pub other_start : List Running → ℕ → Option Draft → Option ℕ
-other_start running c None = None
-other_start running c (Some d) = cond (nat_eq d.caller c) None (start_of running d.caller)
 
 module _ (w : World) (o : InOrder w) (x : Oid) where
   none_if : (c : ℕ) → ((d : ℕ) (q : Txn) → txn_of w d ≡ Some q → nat_eq d c ≡ false → are_touching q.ops x ≡ false) → (r : Option Txn) → other_writer w.running c x ≡ r → r ≡ None

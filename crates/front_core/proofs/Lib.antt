@@ -1,8 +1,10 @@
 pub mod VersionsLemmas
 pub mod CommitsLemmas
+pub mod WritesLemmas
 pub mod VersionLists
 pub mod Drafts
 pub mod Fits
 pub mod RowPlaces
 pub mod Keeping
 pub mod Committing
+pub mod Steps

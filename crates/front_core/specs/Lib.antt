@@ -4,3 +4,5 @@ pub mod Commits
 pub mod Keeps
 pub mod Drafted
 pub mod Finished
+pub mod Obeys
+pub mod Decision

@@ -1,6 +1,7 @@
 //! The store as one state.
 #![tactic(auto)]
 
+mod decision;
 mod row;
 mod version;
 mod writes;

@@ -27,13 +27,12 @@ use Rattle.world_model.proofs.Folds.{are_sound-append, are_below-append, are_bel
 use Rattle.world_model.proofs.Lists.{map-with_op, bare}
 
 -- the one object that a write touches
-pub target : Op → Oid
+abbrev pub target : Op → Oid
 target (create_vertex v) = Vertex v
 target (set_vertex_property v k x) = Vertex v
 target (set_edge_property e k x) = Edge e
 
 pub touches_target : (op : Op) → touches op ≡ target op ∷ []
-unfolding target
 touches_target (create_vertex v) = refl
 touches_target (set_vertex_property v k x) = refl
 touches_target (set_edge_property e k x) = refl

@@ -1,0 +1,5 @@
+mod Names
+mod Numbers
+mod Pushed
+mod Read
+mod Spelled

@@ -1,0 +1,10 @@
+-- A name is ASCII, so it is a text.
+use Rattle.std.proofs.Common.{◌≡◌, true, arith}
+use Rattle.graph_shell.specs.Request.{is_name}
+use Rattle.graph_shell.proofs.Names.{name_utf8}
+use Rattle.graph_shell.proofs.request.object.name.Goals as goal
+
+pub returns-in-Err : goal.returns-in-Err
+returns-in-Err c =
+    let yes : is_name c.args.word.now ≡ true = grind arith in
+    absurd (c.in-Err.ensures.cases.0 (name_utf8 _ yes))

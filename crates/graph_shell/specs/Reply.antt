@@ -1,0 +1,75 @@
+-- The line that answers a request.
+use Rattle.std.specs.Prelude.{ℕ, List, [], ◌∷◌, ◌++◌, codes, Option, Some, None}
+use Rattle.std.specs.Fmt.{decimal}
+use Rattle.graph_value.specs.declared.id.Oid.{Oid}
+use Rattle.graph_value.specs.declared.id.Oid.TheVariants as oid
+use Rattle.graph_record.specs.declared.object.Object.{Object}
+use Rattle.graph_record.specs.declared.object.Object.TheVariants.{Dead}
+use Rattle.graph_record.specs.Json.{IsOfKind, object_text}
+use Rattle.txn_manager.specs.declared.rival.Rival.{Rival}
+use Rattle.txn_manager.specs.declared.rival.Rival.TheVariants as rival
+use Rattle.world_model.specs.declared.answer.Wrote.{Wrote}
+use Rattle.world_model.specs.declared.answer.Wrote.TheVariants as wrote
+use Rattle.world_model.specs.declared.answer.Refused.{Refused}
+use Rattle.world_model.specs.declared.answer.Refused.TheVariants as refused
+use Rattle.world_model.specs.declared.answer.Answer.{Answer}
+use Rattle.world_model.specs.declared.answer.Answer.TheVariants as answer
+
+abbrev pub oid_text : Oid → List ℕ
+oid_text (oid.Vertex id) = codes "v" ++ decimal id.0
+oid_text (oid.Edge id) = codes "e" ++ decimal id.0
+
+-- the start of a transaction that is open, or the time of a commit
+abbrev pub rival_text : Rival → List ℕ
+rival_text (rival.Running start) = codes "open " ++ decimal start
+rival_text (rival.Committed ts) = codes "committed " ++ decimal ts
+
+-- each refusal under its number
+abbrev pub refused_text : Refused → List ℕ
+refused_text refused.NoTxn = codes "refused 1 no transaction"
+refused_text refused.AlreadyOpen = codes "refused 2 already open"
+refused_text (refused.Missing x) = codes "refused 3 missing " ++ oid_text x
+refused_text (refused.Conflict x rival) = codes "refused 4 conflict " ++ oid_text x ++ codes " " ++ rival_text rival
+refused_text refused.ClockEnd = codes "refused 7 clock end"
+refused_text refused.TooMany = codes "refused 9 too many"
+refused_text refused.IdEnd = codes "refused 10 id end"
+refused_text refused.NoMemory = codes "refused 11 no memory"
+
+abbrev pub wrote_text : Wrote → List ℕ
+wrote_text wrote.Done = codes "done"
+wrote_text wrote.Unchanged = codes "unchanged"
+wrote_text (wrote.Vertex id) = oid_text (oid.Vertex id)
+
+-- An object is printed under the id that was asked for. Nothing is printed of one that nobody asked for.
+abbrev pub version_text : Option Oid → Object → List ℕ
+version_text asked Dead = codes "dead"
+version_text None object = []
+version_text (Some x) object = object_text x object
+
+abbrev pub answer_text : Option Oid → Answer → List ℕ
+answer_text asked (answer.Begun start) = codes "begin " ++ decimal start
+answer_text asked (answer.Version object) = version_text asked object
+answer_text asked (answer.Wrote what) = wrote_text what
+answer_text asked (answer.Committed ts) = codes "commit " ++ decimal ts
+answer_text asked (answer.Refused why) = refused_text why
+
+-- a version that is there belongs to the id that was asked for
+abbrev pub IsVersionOf : Option Oid → Object → Type 0
+IsVersionOf asked Dead = Unit {0}
+IsVersionOf None object = ⊥
+IsVersionOf (Some x) object = IsOfKind x object
+
+abbrev pub IsAnswerTo : Option Oid → Answer → Type 0
+IsAnswerTo asked (answer.Version object) = IsVersionOf asked object
+IsAnswerTo asked answer = Unit {0}
+
+abbrev pub line_end : List ℕ
+line_end = 10 ∷ []
+
+-- the caller, and what it is answered
+abbrev pub reply_text : ℕ → Option Oid → Answer → List ℕ
+reply_text caller asked answer = decimal caller ++ codes " " ++ answer_text asked answer ++ line_end
+
+-- the reply to a line that is no request
+abbrev pub bad_line : List ℕ
+bad_line = codes "- refused 12 bad line" ++ line_end

@@ -1,0 +1,11 @@
+ghost use Rattle.graph_shell.specs.Spelling.{ReadIsSpelling, SpellingIsRead};
+
+/// The line that spells a request is read as that request, for each whose numbers are in range and whose name can be written.
+pub fn spelling_is_read()
+    ensures { SpellingIsRead }
+{}
+
+/// A line that is read as a request is the one that spells it, byte by byte: no request has two lines.
+pub fn read_is_spelling()
+    ensures { ReadIsSpelling }
+{}
