@@ -2,10 +2,9 @@
 use Rattle.std.proofs.Common.{inl, inr, ◌≡◌, ◌≢◌, ℕ, suc, zero, ◌+◌, ◌<◌, Bool, true, false, cond, ◌==◌, Option, Some, None, List, [], ◌∷◌, ◌++◌, length, get_or, set, refl, ap, sym, ◌∙◌, arith}
 use Rattle.std.specs.Prelude.{nat_eq}
 use Rattle.std.specs.List.{position, position_from, remove, AllPairs}
-use Rattle.std.proofs.lemmas.Bool.{eqb-true, eq-eqb, cases_eq}
+use Rattle.std.proofs.lemmas.Bool.{eqb-true, eq-eqb}
 use Rattle.std.proofs.lemmas.Bool.Decides.{eqb_tells}
 use Rattle.std.proofs.lemmas.Iterator.Adapters.{position_from-zero}
-use Rattle.std.proofs.lemmas.List.{length-set, get_or-set_same, get_or-set_other}
 use Rattle.std.proofs.lemmas.List.Quantifiers.{position-Some, all_pairs_push}
 use Rattle.front_core.specs.Writes.{vertices_of}
 use Rattle.front_core.specs.declared.writes.CallerWrites.{CallerWrites}
@@ -153,25 +152,6 @@ vertices_of-remove caller (suc i) (w ∷ ws) d apart at =
           ∙ vertices_of-remove caller i ws d rest (later_stands caller i w ws at)
           ∙ ap (cond (nat_eq caller d) []) (sym (ap (λ b. cond b w.vertices (vertices_of ws d)) other.0))
     ]
-
-get_caller-set : (caller i : ℕ) (xs : List ℕ) (ws : List CallerWrites) (k : ℕ) (d : CallerWrites) → StandsAt caller i ws →
-    (get_or (set ws i (record { caller = caller; vertices = xs })) k d).caller ≡ (get_or ws k d).caller
-get_caller-set caller i xs ws k d at =
-    elim (cases_eq k i) [
-      | inl same ↦
-          let within : i < length ws = at.within in
-          ap (λ n. (get_or (set ws i (record { caller = caller; vertices = xs })) n d).caller) same
-          ∙ ap (λ (w : CallerWrites). w.caller) (get_or-set_same ws i (record { caller = caller; vertices = xs }) d within)
-          ∙ sym (at.here d)
-          ∙ ap (λ n. (get_or ws n d).caller) (sym same)
-      | inr other ↦ ap (λ (w : CallerWrites). w.caller) (get_or-set_other ws i k (record { caller = caller; vertices = xs }) d other)
-    ]
-
--- the callers stay apart
-pub AreApart-set : (caller i : ℕ) (xs : List ℕ) (ws : List CallerWrites) → AreApart ws → StandsAt caller i ws → AreApart (set ws i (record { caller = caller; vertices = xs }))
-AreApart-set caller i xs ws apart at j k d jk kl same =
-    apart j k d jk (omega (arith, length-set ws i (record { caller = caller; vertices = xs }), kl))
-    (sym (get_caller-set caller i xs ws j d at) ∙ same ∙ get_caller-set caller i xs ws k d at)
 
 -- one more vertex in the entry of the caller
 pub vertices_of-grown : (caller place vertex : ℕ) (ws : List CallerWrites) (w : CallerWrites) (xs : List ℕ) →
