@@ -190,27 +190,35 @@ fn cuts_keep_what_is_not_below_the_mark(rt: HostRuntime) -> Result<(), Fail> {
     Ok(())
 }
 
-#[test]
-fn timestamps_reach_both_ends(rt: HostRuntime) -> Result<(), Fail> {
-    let mut chain = Chain::new(rt.alloc());
-    assert_eq!(rt; chain.newest_commit(), None);
+/// 2 of the last timestamp there is, 1 of the first.
+fn widest(rt: &impl Abort, alloc: Global) -> Result<Chain<Digits>, NoMemory> {
+    let mut chain = Chain::new(alloc);
     push(&mut chain, 1)?;
-    commit(&rt, &mut chain, 0);
+    commit(rt, &mut chain, 0);
     push(&mut chain, 2)?;
-    commit(&rt, &mut chain, u64::MAX);
-    let rows = [(0, 92), (u64::MAX - 1, 92), (u64::MAX, 9)];
-    for (t, wanted) in rows {
+    commit(rt, &mut chain, u64::MAX);
+    Ok(chain)
+}
+
+#[test]
+fn versions_reach_both_ends(rt: HostRuntime) -> Result<(), Fail> {
+    let chain = widest(&rt, rt.alloc())?;
+    for (t, wanted) in [(0, 92), (u64::MAX - 1, 92), (u64::MAX, 9)] {
         let object = chain.version_at(rt.alloc(), &9, t)?;
         assert_eq!(rt; object, wanted, "at {t}");
     }
-    let (object, deltas) = tail_of(rt.alloc(), &chain, 0)?;
-    assert_eq!(rt; object, 921);
-    assert_eq!(rt; deltas.len(), 0);
-    let (object, deltas) = tail_of(rt.alloc(), &chain, u64::MAX)?;
-    assert_eq!(rt; object, 92);
-    assert_eq!(rt; deltas.as_slice(), [(0, 1)].as_slice());
-    assert_eq!(rt; chain.cut_below(0), 0);
-    assert_eq!(rt; chain.cut_below(u64::MAX), 1);
-    assert_eq!(rt; chain.newest_commit(), Some(u64::MAX));
+    Ok(())
+}
+
+#[test]
+fn marks_reach_both_ends(rt: HostRuntime) -> Result<(), Fail> {
+    for (mark, object, count) in [(0, 921, 0), (1, 92, 1), (u64::MAX, 92, 1)] {
+        let mut chain = widest(&rt, rt.alloc())?;
+        let (newest, deltas) = tail_of(rt.alloc(), &chain, mark)?;
+        assert_eq!(rt; newest, object, "below {mark}");
+        assert_eq!(rt; deltas.len(), count, "below {mark}");
+        assert_eq!(rt; chain.cut_below(mark), count as u64, "below {mark}");
+        assert_eq!(rt; chain.newest_commit(), Some(u64::MAX), "below {mark}");
+    }
     Ok(())
 }
