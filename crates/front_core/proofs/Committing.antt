@@ -40,7 +40,7 @@ all_listed : (P : ℕ → Bool) (vs : List ℕ) → ((v : ℕ) → list_any (nat
 all_listed P [] h = refl
 all_listed P (v ∷ vs) h =
     both_true _ _ (h v (ap (λ b. b || list_any (nat_eq v) vs) (nat_eq_refl v)))
-      (all_listed P vs (λ u t. h u (ap (λ b. nat_eq u v || b) t ∙ always (nat_eq u v))))
+    (all_listed P vs (λ u t. h u (ap (λ b. nat_eq u v || b) t ∙ always (nat_eq u v))))
   where
     always : (b : Bool) → (b || true) ≡ true
     always true = refl
@@ -71,7 +71,7 @@ draft_in_range first rows c v h = by_first (nat_lt v first) refl
 pub listed_in_range : (k : Kept) (w : World) (c : ℕ) → Keeps k w → list_all (λ v. nat_le k.first v && nat_lt (v - k.first) (length k.rows)) (vertices_of k.writes c) ≡ true
 listed_in_range k w c keeps =
     all_listed (λ v. nat_le k.first v && nat_lt (v - k.first) (length k.rows)) (vertices_of k.writes c)
-      (λ v t. draft_in_range k.first k.rows c v (sym (keeps.listed c v) ∙ t))
+    (λ v t. draft_in_range k.first k.rows c v (sym (keeps.listed c v) ∙ t))
 
 -- for numbers from the first on, places are equal where the numbers are
 same_places : (first u : ℕ) (n : ℕ) (vs : List ℕ) → nat_lt u first ≡ false → list_all (λ v. nat_le first v && nat_lt (v - first) n) vs ≡ true → list_any (λ v. nat_eq (v - first) (u - first)) vs ≡ list_any (nat_eq u) vs
@@ -104,7 +104,7 @@ finished_row k w c ts u keeps = by_first (nat_lt u k.first) refl
     by_first false ge =
         let row : row_of k.first k.rows u ≡ get_or k.rows (u - k.first) no_versions = ap (λ b. cond b no_versions (get_or k.rows (u - k.first) no_versions)) ge in
         let listed : list_any (λ v. nat_eq (v - k.first) (u - k.first)) (vertices_of k.writes c) ≡ is_draft_of c (row_of k.first k.rows u).draft =
-              same_places k.first u (length k.rows) (vertices_of k.writes c) ge (listed_in_range k w c keeps) ∙ keeps.listed c u in
+        same_places k.first u (length k.rows) (vertices_of k.writes c) ge (listed_in_range k w c keeps) ∙ keeps.listed c u in
         ap (λ b. cond b no_versions (get_or (commit_listed ts k.first (vertices_of k.writes c) k.rows) (u - k.first) no_versions)) ge
         ∙ get_or-commit_listed ts k.first (u - k.first) (vertices_of k.writes c) k.rows
         ∙ ap (λ b. cond b (row_committed ts (get_or k.rows (u - k.first) no_versions)) (get_or k.rows (u - k.first) no_versions)) listed
@@ -217,6 +217,7 @@ module _ (k : Kept) (w : World) (c : ℕ) (p : Txn) (keeps : Keeps k w) (open_p 
             where
               none : ◌≡◌ {A = Option Draft} None None
               none = refl
+
       by_draft : (r : Versions) → list_any (nat_eq u) (vertices_of k.writes c) ≡ is_draft_of c r.draft → list_any (nat_eq u) (vertices_of k.writes d) ≡ is_draft_of d r.draft →
           list_any (nat_eq u) (cond (nat_eq c d) [] (vertices_of k.writes d)) ≡ is_draft_of d (cond (is_draft_of c r.draft) (row_committed w.clock r) r).draft
       by_draft r lc ld = by_mine (is_draft_of c r.draft) refl (nat_eq c d) refl
@@ -258,16 +259,17 @@ module _ (k : Kept) (w : World) (c : ℕ) (p : Txn) (keeps : Keeps k w) (open_p 
   -- the end of a transaction without writes
   keeps_left : (k' : Kept) → Finished k k' c → p.ops ≡ [] → Keeps k' (left_world w c)
   keeps_left k' f none = record {
-      ordered = empty_commit_keeps_order w c p keeps.ordered open_p;
-      transactions = running_left k' f w.clock (ap (λ vs. cond (is_listed vs) (k.transactions.clock + 1) k.transactions.clock) (empty_list none) ∙ ap (λ (t : Transactions). t.clock) keeps.transactions);
-      vertices = count_left k' f;
-      edges = f.edges ∙ keeps.edges;
-      rows = by_kind;
-      listed = lists_left k' f (rows_left k' f);
-    }
+    ordered = empty_commit_keeps_order w c p keeps.ordered open_p;
+    transactions = running_left k' f w.clock (ap (λ vs. cond (is_listed vs) (k.transactions.clock + 1) k.transactions.clock) (empty_list none) ∙ ap (λ (t : Transactions). t.clock) keeps.transactions);
+    vertices = count_left k' f;
+    edges = f.edges ∙ keeps.edges;
+    rows = by_kind;
+    listed = lists_left k' f (rows_left k' f);
+  }
     where
       same : (v : ℕ) → row_at k' (Vertex (record { 0 = v })) ≡ row_at k (Vertex (record { 0 = v }))
       same v = rows_left k' f v ∙ ap (λ b. cond b (row_committed w.clock (row_at k (Vertex (record { 0 = v })))) (row_at k (Vertex (record { 0 = v })))) (none_drafted none v)
+
       by_kind : (x : Oid) → FitsRow (left_world w c) x (row_at k' x)
       by_kind (Vertex v) = subst (λ (r : Versions). FitsRow (left_world w c) (Vertex v) r) (sym (same v.0)) (left_row w c p (Vertex v) (row_at k (Vertex v)) open_p none (keeps.rows (Vertex v)))
       by_kind (Edge e) = left_row w c p (Edge e) no_versions open_p none (keeps.rows (Edge e))
@@ -275,13 +277,13 @@ module _ (k : Kept) (w : World) (c : ℕ) (p : Txn) (keeps : Keeps k w) (open_p 
   -- and of one with writes
   keeps_committed : (k' : Kept) → Finished k k' c → (op : Op) (ops : List Op) → p.ops ≡ op ∷ ops → Keeps k' (committed_world w c p)
   keeps_committed k' f op ops some = record {
-      ordered = commit_keeps_order w c p keeps.ordered open_p;
-      transactions = running_left k' f (w.clock + 1) (ap (λ b. cond b (k.transactions.clock + 1) k.transactions.clock) (some_list op ops some) ∙ ap (λ (t : Transactions). t.clock + 1) keeps.transactions);
-      vertices = count_left k' f;
-      edges = f.edges ∙ keeps.edges;
-      rows = by_kind;
-      listed = lists_left k' f (rows_left k' f);
-    }
+    ordered = commit_keeps_order w c p keeps.ordered open_p;
+    transactions = running_left k' f (w.clock + 1) (ap (λ b. cond b (k.transactions.clock + 1) k.transactions.clock) (some_list op ops some) ∙ ap (λ (t : Transactions). t.clock + 1) keeps.transactions);
+    vertices = count_left k' f;
+    edges = f.edges ∙ keeps.edges;
+    rows = by_kind;
+    listed = lists_left k' f (rows_left k' f);
+  }
     where
       by_kind : (x : Oid) → FitsRow (committed_world w c p) x (row_at k' x)
       by_kind (Edge e) = other_row w c p keeps.ordered open_p (Edge e) no_versions (keeps.rows (Edge e)) refl
@@ -290,12 +292,12 @@ module _ (k : Kept) (w : World) (c : ℕ) (p : Txn) (keeps : Keeps k w) (open_p 
           by_mine : (b : Bool) → is_draft_of c (row_at k (Vertex v)).draft ≡ b → FitsRow (committed_world w c p) (Vertex v) (row_at k' (Vertex v))
           by_mine true m =
               subst (λ (r : Versions). FitsRow (committed_world w c p) (Vertex v) r)
-                (sym (rows_left k' f v.0 ∙ ap (λ b. cond b (row_committed w.clock (row_at k (Vertex v))) (row_at k (Vertex v))) m))
-                (own_row w c p keeps.ordered open_p (Vertex v) (row_at k (Vertex v)).committed (row_at k (Vertex v)).draft (keeps.rows (Vertex v)) m)
+              (sym (rows_left k' f v.0 ∙ ap (λ b. cond b (row_committed w.clock (row_at k (Vertex v))) (row_at k (Vertex v))) m))
+              (own_row w c p keeps.ordered open_p (Vertex v) (row_at k (Vertex v)).committed (row_at k (Vertex v)).draft (keeps.rows (Vertex v)) m)
           by_mine false m =
               subst (λ (r : Versions). FitsRow (committed_world w c p) (Vertex v) r)
-                (sym (rows_left k' f v.0 ∙ ap (λ b. cond b (row_committed w.clock (row_at k (Vertex v))) (row_at k (Vertex v))) m))
-                (other_row w c p keeps.ordered open_p (Vertex v) (row_at k (Vertex v)) (keeps.rows (Vertex v)) m)
+              (sym (rows_left k' f v.0 ∙ ap (λ b. cond b (row_committed w.clock (row_at k (Vertex v))) (row_at k (Vertex v))) m))
+              (other_row w c p keeps.ordered open_p (Vertex v) (row_at k (Vertex v)) (keeps.rows (Vertex v)) m)
 
   -- The end of the caller's transaction: the world of the step, and its answer.
   pub keeps_finished : (k' : Kept) → Finished k k' c → Keeps k' (committed w c p.start p.ops).world

@@ -66,9 +66,11 @@ other_found (r ∷ rs) c x q apart h =
     other : (a b : Bool) → (not a && b) ≡ true → a ≡ false
     other true b e = absurd (false≢true e)
     other false b e = refl
+
     touched : (a b : Bool) → (not a && b) ≡ true → b ≡ true
     touched true b e = absurd (false≢true e)
     touched false b e = e
+
     unequal : (a b : ℕ) → a ≢ b → nat_eq a b ≡ false
     unequal a b ne = grind (arith, nat_tests)
 
@@ -111,7 +113,7 @@ module _ (w : World) (o : InOrder w) (x : Oid) where
   pub row_rival : (p : Txn) (r : Versions) → FitsRow w x r → rival_of p.start (other_start (transactions_of w).running p.caller r.draft) (newest_stamp r.committed) ≡ rival_at w p x
   row_rival p r fits =
       ap (λ n. rival_of p.start (other_start (transactions_of w).running p.caller r.draft) n)
-        (ap newest_stamp (fits.committed ∙ versions_from-object empty_graph w.commits x) ∙ newest_stamp-touch (object_at empty_graph x) w.commits x o.ascending)
+      (ap newest_stamp (fits.committed ∙ versions_from-object empty_graph w.commits x) ∙ newest_stamp-touch (object_at empty_graph x) w.commits x o.ascending)
       ∙ ap (λ s. rival_of p.start s (newest_touch w.commits x)) (sym (draft_start p.caller r.draft fits.draft))
 
   -- without a draft of its own, a transaction sees the newest version below its start

@@ -30,9 +30,9 @@ found_begun ps p d q f = find_txn-append ps p d ∙ ap (λ (r : Option Txn). or_
 
 pub begun_draft : (w : World) (c : ℕ) (x : Oid) (dr : Option Draft) → FitsDraft w x dr → FitsDraft (begun_world w c) x dr
 begun_draft w c x None fits = λ d q f. elim (begun_found w.running (fresh w c) d q f) [
-    | inl old ↦ fits d q old
-    | inr new ↦ subst (λ (t : Txn). are_touching t.ops x ≡ false) (sym new) (no_touch x)
-  ]
+  | inl old ↦ fits d q old
+  | inr new ↦ subst (λ (t : Txn). are_touching t.ops x ≡ false) (sym new) (no_touch x)
+]
 begun_draft w c x (Some d) (p, found, touched, same) = (p, found_begun w.running (fresh w c) d.caller p found, touched, same)
 
 -- a begin leaves each row as it is
@@ -70,18 +70,18 @@ written_draft w c p op x open_p quiet None fits = λ d q f. by_case d q (written
     by_case : (d : ℕ) (q : Txn) → Written c op w.running d q → are_touching q.ops x ≡ false
     by_case d q (own r e f is) =
         subst (λ (t : Txn). are_touching t.ops x ≡ false) (sym is)
-          (touching_written r op x ∙ ap (λ b. b || (is_touched op x || false)) (fits d r f) ∙ ap (λ b. b || false) quiet)
+        (touching_written r op x ∙ ap (λ b. b || (is_touched op x || false)) (fits d r f) ∙ ap (λ b. b || false) quiet)
     by_case d q (others ne f) = fits d q f
 written_draft w c p op x open_p quiet (Some d) (q, found, touched, same) = by_caller (nat_eq c d.caller) refl
   where
     by_caller : (b : Bool) → nat_eq c d.caller ≡ b → FitsDraft (written_world w c op) x (Some d)
     by_caller true e =
         let at : c ≡ d.caller = equal_of c d.caller e in
-        let mine : p ≡ q = some_same (sym open_p ∙ ap (find_txn w.running) at ∙ found) in
-        ( with_write op p
-        , subst (λ (n : ℕ). find_txn (with_op w.running c op) n ≡ Some (with_write op p)) at (found_written w.running c op p open_p)
-        , touching_written p op x ∙ ap (λ b. b || (is_touched op x || false)) (ap (λ (t : Txn). are_touching t.ops x) mine ∙ touched)
-        , same ∙ ap (λ (t : Txn). object_at (view_of w t) x) (sym mine) ∙ sym (view_written w c p op x ∙ ap (λ b. cond b (changed op (object_at (view_of w p) x)) (object_at (view_of w p) x)) quiet)
+        let mine : p ≡ q = some_same (sym open_p ∙ ap (find_txn w.running) at ∙ found) in (
+          with_write op p,
+          subst (λ (n : ℕ). find_txn (with_op w.running c op) n ≡ Some (with_write op p)) at (found_written w.running c op p open_p),
+          touching_written p op x ∙ ap (λ b. b || (is_touched op x || false)) (ap (λ (t : Txn). are_touching t.ops x) mine ∙ touched),
+          same ∙ ap (λ (t : Txn). object_at (view_of w t) x) (sym mine) ∙ sym (view_written w c p op x ∙ ap (λ b. cond b (changed op (object_at (view_of w p) x)) (object_at (view_of w p) x)) quiet),
         )
     by_caller false e = (q, found_other w.running c op d.caller q e found, touched, same)
 
@@ -94,12 +94,12 @@ pub written_at : (w : World) (c : ℕ) (p : Txn) (op : Op) (x : Oid) (committed 
     FitsRow (written_world w c op) x (record { committed = committed; draft = Some (record { caller = c; object = object }) })
 written_at w c p op x committed object open_p touched versions made = record {
   committed = versions;
-  draft =
-    ( with_write op p
-    , found_written w.running c op p open_p
-    , touching_written p op x ∙ ap (λ b. are_touching p.ops x || (b || false)) touched ∙ or_true (are_touching p.ops x)
-    , made ∙ sym (view_written w c p op x ∙ ap (λ b. cond b (changed op (object_at (view_of w p) x)) (object_at (view_of w p) x)) touched)
-    );
+  draft = (
+    with_write op p,
+    found_written w.running c op p open_p,
+    touching_written p op x ∙ ap (λ b. are_touching p.ops x || (b || false)) touched ∙ or_true (are_touching p.ops x),
+    made ∙ sym (view_written w c p op x ∙ ap (λ b. cond b (changed op (object_at (view_of w p) x)) (object_at (view_of w p) x)) touched),
+  );
 }
   where
     or_true : (b : Bool) → (b || true) ≡ true
@@ -155,7 +155,7 @@ module _ (w : World) (c : ℕ) (p : Txn) (o : InOrder w) (open_p : txn_of w c �
   own_object touched =
       object_at-apply_all p.ops (fold_of (before p.start w.commits)) x
       ∙ ap (object_after_all p.ops x) (object_at-apply_all (ops_of (before p.start w.commits)) empty_graph x
-        ∙ sym (seen_before p.start x w.commits (object_at empty_graph x) (o.apart c p open_p) (o.unrivalled c p open_p x touched)))
+      ∙ sym (seen_before p.start x w.commits (object_at empty_graph x) (o.apart c p open_p) (o.unrivalled c p open_p x touched)))
       ∙ sym (object_after_all-append (ops_of w.commits) p.ops x (object_at empty_graph x))
 
   nothing : {A : Type 0} (vs : List A) → vs ++ [] ≡ vs
@@ -169,6 +169,7 @@ module _ (w : World) (c : ℕ) (p : Txn) (o : InOrder w) (open_p : txn_of w c �
       quiet : (dr : Option Draft) → FitsDraft w x dr → is_draft_of c dr ≡ false → are_touching p.ops x ≡ false
       quiet None f n = f c p open_p
       quiet (Some d) (q, found, touched, same) n = o.alone d.caller c q p found open_p (differ_of d.caller c n) x touched
+
       by_draft : (dr : Option Draft) → FitsDraft w x dr → is_draft_of c dr ≡ false → FitsDraft w' x dr
       by_draft None f n = λ d q found. f d q (left_found c w.running d q found).1
       by_draft (Some d) (q, found, touched, same) n =
@@ -189,9 +190,9 @@ module _ (w : World) (c : ℕ) (p : Txn) (o : InOrder w) (open_p : txn_of w c �
           let object : d.object ≡ object_after_all (ops_of w.commits ++ p.ops) x (object_at empty_graph x) = same ∙ ap (λ (t : Txn). object_at (view_of w t) x) is_p ∙ own_object written in
           record {
             committed =
-              ap (λ vs. vs ++ record { ts = w.clock; object = d.object } ∷ []) fits.committed
-              ∙ ap (λ (b : Object). versions_of w.commits x ++ record { ts = w.clock; object = b } ∷ []) object
-              ∙ sym (versions_more ∙ ap (λ b. versions_of w.commits x ++ cond b (record { ts = w.clock; object = object_after_all (ops_of w.commits ++ p.ops) x (object_at empty_graph x) } ∷ []) []) written);
+                ap (λ vs. vs ++ record { ts = w.clock; object = d.object } ∷ []) fits.committed
+                ∙ ap (λ (b : Object). versions_of w.commits x ++ record { ts = w.clock; object = b } ∷ []) object
+                ∙ sym (versions_more ∙ ap (λ b. versions_of w.commits x ++ cond b (record { ts = w.clock; object = object_after_all (ops_of w.commits ++ p.ops) x (object_at empty_graph x) } ∷ []) []) written);
             draft = λ e r f. let left = left_found c w.running e r f in
-              o.alone c e p r open_p left.1 (differ_of c e left.0) x written;
+                o.alone c e p r open_p left.1 (differ_of c e left.0) x written;
           }

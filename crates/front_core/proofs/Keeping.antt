@@ -50,6 +50,7 @@ no_other_draft w c p x (Some e) (q, found, touched, same) open_p free d ne = by_
   where
     own : p.caller ≡ c
     own = equal_of p.caller c (found_caller w.running c p open_p)
+
     by_caller : (b : Bool) → nat_eq e.caller d ≡ b → nat_eq e.caller d ≡ false
     by_caller true t =
         let at : nat_eq p.caller e.caller ≡ false = ap (λ n. nat_eq n e.caller) own ∙ ap (nat_eq c) (equal_of e.caller d t) ∙ ne in
@@ -83,8 +84,10 @@ keeps_drafted k k' w c p op v object keeps open_p at free ordered made d = recor
   where
     sum : (a b n : ℕ) → a + (b + n) ≡ (a + b) + n
     sum a b n = omega arith
+
     fits : FitsRow w (Vertex (record { 0 = v })) (row_at k (Vertex (record { 0 = v })))
     fits = keeps.rows (Vertex (record { 0 = v }))
+
     by_kind : (x : Oid) → FitsRow (written_world w c op) x (row_at k' x)
     by_kind (Edge e) = written_beside w c p op (Edge e) no_versions open_p (touched_by op (record { 0 = v }) (Edge e) at) (keeps.rows (Edge e))
     by_kind (Vertex u) = by_vertex (nat_eq u.0 v) refl
@@ -93,14 +96,15 @@ keeps_drafted k k' w c p op v object keeps open_p at free ordered made d = recor
         by_vertex true e =
             let same : u ≡ record { 0 = v } = ap (λ (n : ℕ). record { 0 = n }) (equal_of u.0 v e) in
             let at_v : FitsRow (written_world w c op) (Vertex (record { 0 = v })) (drafted (row_at k (Vertex (record { 0 = v }))) c object) =
-                  written_at w c p op (Vertex (record { 0 = v })) (row_at k (Vertex (record { 0 = v }))).committed object open_p (touched_by op (record { 0 = v }) (Vertex (record { 0 = v })) at ∙ test_of v v refl) fits.committed made in
+            written_at w c p op (Vertex (record { 0 = v })) (row_at k (Vertex (record { 0 = v }))).committed object open_p (touched_by op (record { 0 = v }) (Vertex (record { 0 = v })) at ∙ test_of v v refl) fits.committed made in
             let row : row_at k' (Vertex (record { 0 = v })) ≡ drafted (row_at k (Vertex (record { 0 = v }))) c object =
-                  d.rows v ∙ ap (λ b. cond b (drafted (row_at k (Vertex (record { 0 = v }))) c object) (row_at k (Vertex (record { 0 = v })))) (test_of v v refl) in
+            d.rows v ∙ ap (λ b. cond b (drafted (row_at k (Vertex (record { 0 = v }))) c object) (row_at k (Vertex (record { 0 = v })))) (test_of v v refl) in
             subst (λ (y : VertexId). FitsRow (written_world w c op) (Vertex y) (row_at k' (Vertex y))) (sym same) (subst (λ (r : Versions). FitsRow (written_world w c op) (Vertex (record { 0 = v })) r) (sym row) at_v)
         by_vertex false e =
             let beside : FitsRow (written_world w c op) (Vertex u) (row_at k (Vertex u)) =
-                  written_beside w c p op (Vertex u) (row_at k (Vertex u)) open_p (touched_by op (record { 0 = v }) (Vertex u) at ∙ e) (keeps.rows (Vertex u)) in
+            written_beside w c p op (Vertex u) (row_at k (Vertex u)) open_p (touched_by op (record { 0 = v }) (Vertex u) at ∙ e) (keeps.rows (Vertex u)) in
             subst (λ (r : Versions). FitsRow (written_world w c op) (Vertex u) r) (sym (d.rows u.0 ∙ ap (λ b. cond b (drafted (row_at k (Vertex (record { 0 = v }))) c object) (row_at k (Vertex u))) e)) beside
+
     by_list : (a u : ℕ) → list_any (nat_eq u) (vertices_of k'.writes a) ≡ is_draft_of a (row_at k' (Vertex (record { 0 = u }))).draft
     by_list a u =
         d.listed a u
@@ -113,6 +117,7 @@ keeps_drafted k k' w c p op v object keeps open_p at free ordered made d = recor
           where
             at_u : is_draft_of a (row_at k (Vertex (record { 0 = u }))).draft ≡ is_draft_of a (row_at k (Vertex (record { 0 = v }))).draft
             at_u = ap (λ (n : ℕ). is_draft_of a (row_at k (Vertex (record { 0 = n }))).draft) (equal_of u v e)
+
             by_caller : (b : Bool) → nat_eq c a ≡ b → (is_draft_of a (row_at k (Vertex (record { 0 = u }))).draft || (nat_eq c a && nat_eq u v)) ≡ is_draft_of a (cond (nat_eq u v) (drafted (row_at k (Vertex (record { 0 = v }))) c object) (row_at k (Vertex (record { 0 = u })))).draft
             by_caller true t =
                 ap (λ b. is_draft_of a (row_at k (Vertex (record { 0 = u }))).draft || (b && nat_eq u v)) t

@@ -8,3 +8,4 @@ pub mod RowPlaces
 pub mod Keeping
 pub mod Committing
 pub mod Steps
+pub mod Starts

@@ -19,15 +19,16 @@ row_of-set first rows v r in_range below u =
     elim (nat_lt u first) as (λ b. nat_lt u first ≡ b → cond b no_versions (get_or (set rows (v - first) r) (u - first) no_versions) ≡ cond (nat_eq u v) r (cond b no_versions (get_or rows (u - first) no_versions))) [
       | true ↦ λ lt. ap (λ b. cond b r no_versions) (sym (apart u v first lt in_range))
       | false ↦ λ ge. elim (nat_eq u v) as (λ b. nat_eq u v ≡ b → get_or (set rows (v - first) r) (u - first) no_versions ≡ cond b r (get_or rows (u - first) no_versions)) [
-          | true ↦ λ e. let same : u ≡ v = grind (arith, nat_tests) in
-              ap (λ n. get_or (set rows (v - first) r) (n - first) no_versions) same ∙ get_or-set_same rows (v - first) r no_versions below
-          | false ↦ λ e. let differs : u - first ≢ v - first = λ s. false≢true (sym e ∙ together u v first ge in_range s) in
-              get_or-set_other rows (v - first) (u - first) r no_versions differs
-        ] refl
+        | true ↦ λ e. let same : u ≡ v = grind (arith, nat_tests) in
+            ap (λ n. get_or (set rows (v - first) r) (n - first) no_versions) same ∙ get_or-set_same rows (v - first) r no_versions below
+        | false ↦ λ e. let differs : u - first ≢ v - first = λ s. false≢true (sym e ∙ together u v first ge in_range s) in
+            get_or-set_other rows (v - first) (u - first) r no_versions differs
+      ] refl
     ] refl
   where
     apart : (u v first : ℕ) → nat_lt u first ≡ true → nat_lt v first ≡ false → nat_eq u v ≡ false
     apart u v first lt ge = grind (arith, nat_tests)
+
     together : (u v first : ℕ) → nat_lt u first ≡ false → nat_lt v first ≡ false → u - first ≡ v - first → nat_eq u v ≡ true
     together u v first a b s = grind (arith, nat_tests)
 
@@ -40,14 +41,19 @@ row_of-push first rows r u =
   where
     low : (u first n : ℕ) → nat_lt u first ≡ true → nat_eq u (first + n) ≡ false
     low u first n lt = grind (arith, nat_tests)
+
     inside : (u first n : ℕ) → nat_lt (u - first) n ≡ true → nat_lt u first ≡ false → nat_eq u (first + n) ≡ false
     inside u first n lt ge = grind (arith, nat_tests)
+
     seam : (u first n : ℕ) → nat_eq u (first + n) ≡ true → u - first ≡ n
     seam u first n e = grind (arith, nat_tests)
+
     beyond : (u first n : ℕ) → nat_lt u first ≡ false → nat_lt (u - first) n ≡ false → nat_eq u (first + n) ≡ false → n + 1 ≤ u - first
     beyond u first n ge out ne = grind (arith, nat_tests)
+
     below_of : (a b : ℕ) → nat_lt a b ≡ true → a < b
     below_of a b h = grind (arith, nat_tests)
+
     by_place : nat_lt u first ≡ false → (b : Bool) → nat_lt (u - first) (length rows) ≡ b → get_or (rows ++ r ∷ []) (u - first) no_versions ≡ cond (nat_eq u (first + length rows)) r (get_or rows (u - first) no_versions)
     by_place ge true lt =
         get_or-append rows (r ∷ []) no_versions (u - first) (below_of (u - first) (length rows) lt)

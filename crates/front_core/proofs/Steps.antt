@@ -1,6 +1,6 @@
 -- Each answer of the core, as a step of the world that it keeps.
 use Rattle.std.proofs.Common.{◌≡◌, ◌≢◌, ℕ, suc, ◌+◌, ◌-◌, ◌^◌, ◌<◌, ◌≤◌, List, [], ◌∷◌, ◌++◌, Option, Some, None, Bool, true, false, not, ◌&&◌, ◌||◌, cond, length, get_or, refl, sym, ap, subst, ◌∙◌, ◌⊎◌, inl, inr, arith, map}
-use Rattle.std.specs.Prelude.{nat_eq, nat_lt, nat_le, option_map}
+use Rattle.std.specs.Prelude.{nat_eq, nat_lt, nat_le, option_map, IfSome, Result, Err}
 use Rattle.std.specs.List.{list_any, list_all}
 use Rattle.std.proofs.lemmas.Bool.{false≢true}
 use Rattle.std.proofs.lemmas.Bool.Decides.{nat_tests}
@@ -84,6 +84,7 @@ open_txn k w c start keeps h = by_found (txn_of w c) refl
   where
     in_list : start_of (transactions_of w).running c ≡ Some start
     in_list = ap (λ (t : Transactions). start_of t.running c) (sym keeps.transactions) ∙ h
+
     by_found : (o : Option Txn) → txn_of w c ≡ o → (p : Txn) × (txn_of w c ≡ Some p) × (p.start ≡ start)
     by_found None e = absurd (none_some (sym (start_of-none w.running c e) ∙ in_list))
       where
@@ -120,7 +121,7 @@ obeys_begun k w c start keeps allowed at =
     let free : begin_refusal (transactions_of w) c ≡ None = same_refusal k w c keeps ∙ allowed in
     let clock : start ≡ w.clock = at ∙ ap (λ (t : Transactions). t.clock) keeps.transactions in
     obeys_step (record k { transactions = begun k.transactions c }) w (Rattle.world_model.specs.Step.begun_world w c) c event.Begin (answer.Begun start)
-      (ap (begin_step w c) free ∙ ap (λ (n : ℕ). record { reply = answer.Begun n; world = Rattle.world_model.specs.Step.begun_world w c }) (sym clock)) refl (keeps_begun k w c keeps free)
+    (ap (begin_step w c) free ∙ ap (λ (n : ℕ). record { reply = answer.Begun n; world = Rattle.world_model.specs.Step.begun_world w c }) (sym clock)) refl (keeps_begun k w c keeps free)
 
 pub obeys_begin_refused : (k : Kept) (w : World) (c : ℕ) (why : BeginRefused) → Keeps k w → begin_refusal k.transactions c ≡ Some why → Obeys w k (entry c event.Begin (answer.Refused (refused_begin why)))
 obeys_begin_refused k w c why keeps h = obeys_refusal k w c event.Begin (refused_begin why) keeps (ap (begin_step w c) (same_refusal k w c keeps ∙ h))
@@ -134,9 +135,9 @@ pub obeys_read : (k : Kept) (w : World) (c start : ℕ) (x : Oid) (when : When) 
 obeys_read k w c start x when o keeps h seen =
     let t = open_txn k w c start keeps h in
     let same : seen_object c start (row_at k x) ≡ object_at (view_of w t.0) x =
-          ap (λ n. seen_object c n (row_at k x)) (sym t.2) ∙ drafts.seen_row w keeps.ordered x c t.0 (row_at k x) (keeps.rows x) t.1 in
+    ap (λ n. seen_object c n (row_at k x)) (sym t.2) ∙ drafts.seen_row w keeps.ordered x c t.0 (row_at k x) (keeps.rows x) t.1 in
     obeys_step k w w c (event.Read x when) (answer.Version o)
-      (ap (read_step w x) t.1 ∙ ap (λ (b : Object). record { reply = answer.Version b; world = w }) (sym (seen ∙ same))) refl keeps
+    (ap (read_step w x) t.1 ∙ ap (λ (b : Object). record { reply = answer.Version b; world = w }) (sym (seen ∙ same))) refl keeps
 
 pub obeys_read_no_memory : (k : Kept) (w : World) (c start : ℕ) (x : Oid) (when : When) → Keeps k w → start_of k.transactions.running c ≡ Some start → Obeys w k (entry c (event.Read x when) (answer.Refused NoMemory))
 obeys_read_no_memory k w c start x when keeps h =
@@ -148,10 +149,10 @@ pub obeys_set_edge : (k : Kept) (w : World) (c start : ℕ) (e : EdgeId) (name :
 obeys_set_edge k w c start e name x keeps h =
     let t = open_txn k w c start keeps h in
     let dead : object_at (view_of w t.0) (Edge e) ≡ object.Dead =
-          ap (λ (g : Graph). object_at g (Edge e)) (sym (apply_all-append (ops_of (before t.0.start w.commits)) t.0.ops empty_graph)) ∙ edge_dead (ops_of (before t.0.start w.commits) ++ t.0.ops) e in
+    ap (λ (g : Graph). object_at g (Edge e)) (sym (apply_all-append (ops_of (before t.0.start w.commits)) t.0.ops empty_graph)) ∙ edge_dead (ops_of (before t.0.start w.commits) ++ t.0.ops) e in
     obeys_refusal k w c (event.Write (SetEdgeProp e name x)) (Missing (Edge e)) keeps
-      (ap (write_step w c (SetEdgeProp e name x)) t.1
-       ∙ ap (λ b. allowed_write_step w t.0 c (SetEdgeProp e name x) (or_else (cond b (Some (Missing (Edge e))) None) (or_else (conflict w t.0 (touches (op_of w (SetEdgeProp e name x)))) (id_end w (SetEdgeProp e name x))))) (ap is_dead dead))
+    (ap (write_step w c (SetEdgeProp e name x)) t.1
+    ∙ ap (λ b. allowed_write_step w t.0 c (SetEdgeProp e name x) (or_else (cond b (Some (Missing (Edge e))) None) (or_else (conflict w t.0 (touches (op_of w (SetEdgeProp e name x)))) (id_end w (SetEdgeProp e name x))))) (ap is_dead dead))
 
 -- what a decision to set a property says, over plain tests
 module _ (v : VertexId) where
@@ -217,19 +218,19 @@ module _ (k : Kept) (w : World) (c start : ℕ) (v : VertexId) (name : List ℕ)
   pub obeys_set_refused : (why : Refused) → set_decision k.transactions.running c start v name x r ≡ Refuse why → Obeys w k (entry c (event.Write ask) (answer.Refused why))
   obeys_set_refused why d =
       obeys_refusal k w c (event.Write ask) why keeps
-        (set_step ∙ ap (allowed_write_step w p c ask) (refuses v (is_dead (object_at (view_of w p) (Vertex v))) (rival_at w p (Vertex v)) (is_value x (property_of (object_at (view_of w p) (Vertex v)) name)) why (sym in_world ∙ d)))
+      (set_step ∙ ap (allowed_write_step w p c ask) (refuses v (is_dead (object_at (view_of w p) (Vertex v))) (rival_at w p (Vertex v)) (is_value x (property_of (object_at (view_of w p) (Vertex v)) name)) why (sym in_world ∙ d)))
 
   pub obeys_set_unchanged : set_decision k.transactions.running c start v name x r ≡ Unchanged → Obeys w k (entry c (event.Write ask) (answer.Wrote wrote.Unchanged))
   obeys_set_unchanged d =
       let s = stays v (is_dead (object_at (view_of w p) (Vertex v))) (rival_at w p (Vertex v)) (is_value x (property_of (object_at (view_of w p) (Vertex v)) name)) (sym in_world ∙ d) in
       obeys_step k w w c (event.Write ask) (answer.Wrote wrote.Unchanged)
-        (set_step ∙ ap (allowed_write_step w p c ask) s.0 ∙ ap (λ b. effect_step w c (op_of w ask) (not b)) s.1) refl keeps
+      (set_step ∙ ap (allowed_write_step w p c ask) s.0 ∙ ap (λ b. effect_step w c (op_of w ask) (not b)) s.1) refl keeps
 
   pub obeys_set_no_memory : set_decision k.transactions.running c start v name x r ≡ Set → Obeys w k (entry c (event.Write ask) (answer.Refused NoMemory))
   obeys_set_no_memory d =
       let s = sets v (is_dead (object_at (view_of w p) (Vertex v))) (rival_at w p (Vertex v)) (is_value x (property_of (object_at (view_of w p) (Vertex v)) name)) (sym in_world ∙ d) in
       obeys_no_memory k w c (event.Write ask) keeps
-        (ap (λ (o : Outcome). not (is_refused o.reply)) (set_step ∙ ap (allowed_write_step w p c ask) s.0 ∙ ap (λ b. effect_step w c (op_of w ask) (not b)) s.1))
+      (ap (λ (o : Outcome). not (is_refused o.reply)) (set_step ∙ ap (allowed_write_step w p c ask) s.0 ∙ ap (λ b. effect_step w c (op_of w ask) (not b)) s.1))
 
   pub obeys_set : set_decision k.transactions.running c start v name x r ≡ Set → (k' : Kept) → Drafted k k' c v.0 0 (with_property name x (seen_object c start r)) → Obeys w k' (entry c (event.Write ask) (answer.Wrote wrote.Done))
   obeys_set d k' drafted =
@@ -237,8 +238,8 @@ module _ (k : Kept) (w : World) (c start : ℕ) (v : VertexId) (name : List ℕ)
       let effective : changes (op_of w ask) (view_of w p) ≡ true = ap not s.1 in
       let ordered : InOrder (written_world w c (op_of w ask)) = write_keeps_order w c p ask keeps.ordered open_p s.0 effective in
       obeys_step k' w (written_world w c (op_of w ask)) c (event.Write ask) (answer.Wrote wrote.Done)
-        (set_step ∙ ap (allowed_write_step w p c ask) s.0 ∙ ap (effect_step w c (op_of w ask)) effective) refl
-        (keeps_drafted k k' w c p (op_of w ask) v.0 (with_property name x (seen_object c start r)) keeps open_p refl s.2 ordered (ap (with_property name x) seen_is) drafted)
+      (set_step ∙ ap (allowed_write_step w p c ask) s.0 ∙ ap (effect_step w c (op_of w ask)) effective) refl
+      (keeps_drafted k k' w c p (op_of w ask) v.0 (with_property name x (seen_object c start r)) keeps open_p refl s.2 ordered (ap (with_property name x) seen_is) drafted)
 
 -- a new vertex
 module _ (k : Kept) (w : World) (c start : ℕ) (keeps : Keeps k w) (p : Txn) (open_p : txn_of w c ≡ Some p) where
@@ -268,7 +269,7 @@ module _ (k : Kept) (w : World) (c start : ℕ) (keeps : Keeps k w) (p : Txn) (o
   pub obeys_create_refused : nat_le (2 ^ 62) (k.first + length k.rows) ≡ true → Obeys w k (entry c (event.Write CreateVertex) (answer.Refused IdEnd))
   obeys_create_refused full =
       obeys_refusal k w c (event.Write CreateVertex) IdEnd keeps
-        (create_step ∙ ap (allowed_write_step w p c CreateVertex) (reason_is ∙ ap (λ n. cond (nat_le (2 ^ 62) n) (Some IdEnd) None) (sym keeps.vertices) ∙ ap (λ b. cond b (Some IdEnd) None) full))
+      (create_step ∙ ap (allowed_write_step w p c CreateVertex) (reason_is ∙ ap (λ n. cond (nat_le (2 ^ 62) n) (Some IdEnd) None) (sym keeps.vertices) ∙ ap (λ b. cond b (Some IdEnd) None) full))
 
   free_of_refusal : nat_le (2 ^ 62) (k.first + length k.rows) ≡ false → write_refusal w p CreateVertex ≡ None
   free_of_refusal room = reason_is ∙ ap (λ n. cond (nat_le (2 ^ 62) n) (Some IdEnd) None) (sym keeps.vertices) ∙ ap (λ b. cond b (Some IdEnd) None) room
@@ -276,7 +277,7 @@ module _ (k : Kept) (w : World) (c start : ℕ) (keeps : Keeps k w) (p : Txn) (o
   pub obeys_create_no_memory : nat_le (2 ^ 62) (k.first + length k.rows) ≡ false → Obeys w k (entry c (event.Write CreateVertex) (answer.Refused NoMemory))
   obeys_create_no_memory room =
       obeys_no_memory k w c (event.Write CreateVertex) keeps
-        (ap (λ (o : Outcome). not (is_refused o.reply)) (create_step ∙ ap (allowed_write_step w p c CreateVertex) (free_of_refusal room)))
+      (ap (λ (o : Outcome). not (is_refused o.reply)) (create_step ∙ ap (allowed_write_step w p c CreateVertex) (free_of_refusal room)))
 
   pub obeys_create : nat_le (2 ^ 62) (k.first + length k.rows) ≡ false → (k' : Kept) → Drafted k k' c (k.first + length k.rows) 1 (object.Vertex empty_vertex) →
       Obeys w k' (entry c (event.Write CreateVertex) (answer.Wrote (wrote.Vertex new_vertex)))
@@ -284,8 +285,8 @@ module _ (k : Kept) (w : World) (c start : ℕ) (keeps : Keeps k w) (p : Txn) (o
       let free : write_refusal w p CreateVertex ≡ None = free_of_refusal room in
       let ordered : InOrder (written_world w c (op_of w CreateVertex)) = write_keeps_order w c p CreateVertex keeps.ordered open_p free refl in
       obeys_step k' w (written_world w c (op_of w CreateVertex)) c (event.Write CreateVertex) (answer.Wrote (wrote.Vertex new_vertex))
-        (create_step ∙ ap (allowed_write_step w p c CreateVertex) free ∙ ap (λ (y : VertexId). record { reply = answer.Wrote (wrote.Vertex y); world = written_world w c (op_of w CreateVertex) }) next_is) refl
-        (keeps_drafted k k' w c p (op_of w CreateVertex) (k.first + length k.rows) (object.Vertex empty_vertex) keeps open_p (ap Vertex next_is) (ap (λ (y : VertexId). rival_at w p (Vertex y)) (sym next_is) ∙ no_rival) ordered refl drafted)
+      (create_step ∙ ap (allowed_write_step w p c CreateVertex) free ∙ ap (λ (y : VertexId). record { reply = answer.Wrote (wrote.Vertex y); world = written_world w c (op_of w CreateVertex) }) next_is) refl
+      (keeps_drafted k k' w c p (op_of w CreateVertex) (k.first + length k.rows) (object.Vertex empty_vertex) keeps open_p (ap Vertex next_is) (ap (λ (y : VertexId). rival_at w p (Vertex y)) (sym next_is) ∙ no_rival) ordered refl drafted)
 
 -- the end of a transaction
 pub obeys_commit : (k : Kept) (w : World) (c start number : ℕ) → Keeps k w → start_of k.transactions.running c ≡ Some start →
@@ -298,16 +299,35 @@ obeys_commit k w c start number keeps h told k' f =
     by_writes t [] e =
         let same : number ≡ t.0.start = told ∙ ap (λ vs. cond (is_listed vs) k.transactions.clock start) (empty_list k w c t.0 keeps t.1 e) ∙ sym t.2 in
         obeys_step k' w (committed w c t.0.start t.0.ops).world c event.Commit (answer.Committed number)
-          (ap (commit_step w c) t.1 ∙ reply_of (committed w c t.0.start t.0.ops) (answer.Committed number) (ap (λ ops. (committed w c t.0.start ops).reply) e ∙ ap answer.Committed (sym same))) refl
-          (keeps_finished k w c t.0 keeps t.1 k' f)
+        (ap (commit_step w c) t.1 ∙ reply_of (committed w c t.0.start t.0.ops) (answer.Committed number) (ap (λ ops. (committed w c t.0.start ops).reply) e ∙ ap answer.Committed (sym same))) refl
+        (keeps_finished k w c t.0 keeps t.1 k' f)
       where
         reply_of : (o : Outcome) (r : Answer) → o.reply ≡ r → o ≡ record { reply = r; world = o.world }
         reply_of o r e = ap (λ (s : Answer). record { reply = s; world = o.world }) e
     by_writes t (op ∷ ops) e =
         let same : number ≡ w.clock = told ∙ ap (λ b. cond b k.transactions.clock start) (some_list k w c t.0 keeps t.1 op ops e) ∙ ap (λ (s : Transactions). s.clock) keeps.transactions in
         obeys_step k' w (committed w c t.0.start t.0.ops).world c event.Commit (answer.Committed number)
-          (ap (commit_step w c) t.1 ∙ reply_of (committed w c t.0.start t.0.ops) (answer.Committed number) (ap (λ ops. (committed w c t.0.start ops).reply) e ∙ ap answer.Committed (sym same))) refl
-          (keeps_finished k w c t.0 keeps t.1 k' f)
+        (ap (commit_step w c) t.1 ∙ reply_of (committed w c t.0.start t.0.ops) (answer.Committed number) (ap (λ ops. (committed w c t.0.start ops).reply) e ∙ ap answer.Committed (sym same))) refl
+        (keeps_finished k w c t.0 keeps t.1 k' f)
       where
         reply_of : (o : Outcome) (r : Answer) → o.reply ≡ r → o ≡ record { reply = r; world = o.world }
         reply_of o r e = ap (λ (s : Answer). record { reply = s; world = o.world }) e
+
+-- a begin, as the clock's own list answers it
+pub begin_accepted : (k : Kept) (w : World) (c start : ℕ) (t : Transactions) (r : Answer) → Keeps k w → begin_refusal k.transactions c ≡ None → start ≡ k.transactions.clock → t ≡ begun k.transactions c → r ≡ answer.Begun start →
+    Obeys w (record k { transactions = t }) (entry c event.Begin r)
+begin_accepted k w c start t r keeps free at after told =
+    subst (λ (u : Transactions). Obeys w (record k { transactions = u }) (entry c event.Begin r)) (sym after)
+      (subst (λ (a : Answer). Obeys w (record k { transactions = begun k.transactions c }) (entry c event.Begin a)) (sym told) (obeys_begun k w c start keeps free at))
+
+pub begin_refused : (k : Kept) (w : World) (c : ℕ) (why : BeginRefused) (t : Transactions) (r : Answer) → Keeps k w →
+    IfSome (begin_refusal k.transactions c) (λ x. ◌≡◌ {A = Result ℕ BeginRefused} (Err why) (Err x)) → (begin_refusal k.transactions c ≡ Some why) ⊎ (why ≡ begin.NoMemory) → t ≡ k.transactions → r ≡ answer.Refused (refused_begin why) →
+    Obeys w (record k { transactions = t }) (entry c event.Begin r)
+begin_refused k w c why t r keeps exact reason same told =
+    subst (λ (u : Transactions). Obeys w (record k { transactions = u }) (entry c event.Begin r)) (sym same)
+      (subst (λ (a : Answer). Obeys w k (entry c event.Begin a)) (sym told) (by_refusal (begin_refusal k.transactions c) refl exact reason))
+  where
+    by_refusal : (o : Option BeginRefused) → begin_refusal k.transactions c ≡ o → IfSome o (λ x. ◌≡◌ {A = Result ℕ BeginRefused} (Err why) (Err x)) → (o ≡ Some why) ⊎ (why ≡ begin.NoMemory) → Obeys w k (entry c event.Begin (answer.Refused (refused_begin why)))
+    by_refusal (Some x) e h reason = let is : why ≡ x = cc in obeys_begin_refused k w c why keeps (e ∙ ap Some (sym is))
+    by_refusal None e h (inl none) = absurd cc
+    by_refusal None e h (inr wanting) = subst (λ (x : BeginRefused). Obeys w k (entry c event.Begin (answer.Refused (refused_begin x)))) (sym wanting) (obeys_begin_no_memory k w c keeps e)

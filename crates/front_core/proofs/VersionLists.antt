@@ -22,15 +22,15 @@ pub versions_at : Object → List Commit → Oid → List Version
 versions_at o [] x = []
 versions_at o (c ∷ cs) x =
     cond (are_touching c.ops x)
-      (record { ts = c.ts; object = object_after_all c.ops x o } ∷ versions_at (object_after_all c.ops x o) cs x)
-      (versions_at (object_after_all c.ops x o) cs x)
+    (record { ts = c.ts; object = object_after_all c.ops x o } ∷ versions_at (object_after_all c.ops x o) cs x)
+    (versions_at (object_after_all c.ops x o) cs x)
 
 pub versions_from-object : (g : Graph) (cs : List Commit) (x : Oid) → versions_from g cs x ≡ versions_at (object_at g x) cs x
 unfolding versions_from versions_at
 versions_from-object g [] x = refl
 versions_from-object g (c ∷ cs) x =
     let rest : versions_from (apply_all c.ops g) cs x ≡ versions_at (object_after_all c.ops x (object_at g x)) cs x =
-          versions_from-object (apply_all c.ops g) cs x ∙ ap (λ o. versions_at o cs x) (object_at-apply_all c.ops g x) in
+    versions_from-object (apply_all c.ops g) cs x ∙ ap (λ o. versions_at o cs x) (object_at-apply_all c.ops g x) in
     ap (λ o. cond (are_touching c.ops x) (record { ts = c.ts; object = o } ∷ versions_from (apply_all c.ops g) cs x) (versions_from (apply_all c.ops g) cs x)) (object_at-apply_all c.ops g x)
     ∙ ap (λ vs. cond (are_touching c.ops x) (record { ts = c.ts; object = object_after_all c.ops x (object_at g x) } ∷ vs) vs) rest
 
@@ -111,13 +111,14 @@ versions_at-one o (c ∷ cs) k x =
     let last : Object → List Version = λ q. cond (are_touching k.ops x) (record { ts = k.ts; object = q } ∷ []) [] in
     let rest : versions_at p (cs ++ k ∷ []) x ≡ versions_at p cs x ++ last (object_after_all (ops_of cs ++ k.ops) x p) = versions_at-one p cs k x in
     let whole : object_after_all (ops_of cs ++ k.ops) x p ≡ object_after_all ((c.ops ++ ops_of cs) ++ k.ops) x o =
-          sym (object_after_all-append c.ops (ops_of cs ++ k.ops) x o) ∙ ap (λ os. object_after_all os x o) (joined c.ops (ops_of cs) k.ops) in
+    sym (object_after_all-append c.ops (ops_of cs ++ k.ops) x o) ∙ ap (λ os. object_after_all os x o) (joined c.ops (ops_of cs) k.ops) in
     ap (λ vs. cond (are_touching c.ops x) (record { ts = c.ts; object = p } ∷ vs) vs) (rest ∙ ap (λ q. versions_at p cs x ++ last q) whole)
     ∙ split (are_touching c.ops x) (record { ts = c.ts; object = p }) (versions_at p cs x) (last (object_after_all ((c.ops ++ ops_of cs) ++ k.ops) x o))
   where
     joined : (xs ys zs : List Op) → xs ++ (ys ++ zs) ≡ (xs ++ ys) ++ zs
     joined [] ys zs = refl
     joined (a ∷ xs) ys zs = ap (λ os. a ∷ os) (joined xs ys zs)
+
     split : (b : Bool) (v : Version) (vs us : List Version) → cond b (v ∷ (vs ++ us)) (vs ++ us) ≡ cond b (v ∷ vs) vs ++ us
     split true v vs us = refl
     split false v vs us = refl
@@ -185,6 +186,7 @@ newest_stamp-touch o cs x h =
   where
     empty : ◌≡◌ {A = Option ℕ} None (last_of [])
     empty = refl
+
     of_list : (ns : List ℕ) → climbs ns ≡ true → greatest ns ≡ last_of ns
     of_list [] c = empty
     of_list (n ∷ ns) c = greatest-last n ns c

@@ -63,3 +63,11 @@ pub record StandsFor (s : Start) (k : Kept) (es : List Entry) : Type 0 where
   pub start : IsStart s
   pub legal : IsLegal s es
   pub keeps : Keeps k (run (start_world s) es)
+
+-- some world is the one that is kept
+abbrev pub KeepsSome : Kept → Type 0
+KeepsSome k = (w : World) × Keeps k w
+
+-- the numbers that an empty store begins with
+abbrev pub first_start : Start
+first_start = record { clock = 1; vertices = 0; edges = 0 }

@@ -1,11 +1,16 @@
 //! The store as one state.
 #![tactic(auto)]
 
+mod beginning;
 mod decision;
+mod ending;
+mod reads;
 mod row;
+mod state;
 mod version;
 mod writes;
 
+pub use state::Core;
 use std::alloc::AllocError;
 
 /// Memory was wanting. No contract says when this answer comes.
