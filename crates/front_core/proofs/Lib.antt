@@ -9,3 +9,5 @@ pub mod Keeping
 pub mod Committing
 pub mod Steps
 pub mod Starts
+pub mod Drafting
+pub mod WriteAnswers

@@ -1,6 +1,6 @@
 -- Each answer of the core, as a step of the world that it keeps.
 use Rattle.std.proofs.Common.{◌≡◌, ◌≢◌, ℕ, suc, ◌+◌, ◌-◌, ◌^◌, ◌<◌, ◌≤◌, List, [], ◌∷◌, ◌++◌, Option, Some, None, Bool, true, false, not, ◌&&◌, ◌||◌, cond, length, get_or, refl, sym, ap, subst, ◌∙◌, ◌⊎◌, inl, inr, arith, map}
-use Rattle.std.specs.Prelude.{nat_eq, nat_lt, nat_le, option_map, IfSome, Result, Err}
+use Rattle.std.specs.Prelude.{nat_eq, nat_lt, nat_le, option_map, is_some, IfSome, Result, Err}
 use Rattle.std.specs.List.{list_any, list_all}
 use Rattle.std.proofs.lemmas.Bool.{false≢true}
 use Rattle.std.proofs.lemmas.Bool.Decides.{nat_tests}
@@ -18,6 +18,7 @@ use Rattle.txn_manager.specs.declared.rivals.Rival.{Rival}
 use Rattle.txn_manager.specs.declared.refusals.BeginRefused.{BeginRefused}
 use Rattle.txn_manager.specs.declared.refusals.BeginRefused.TheVariants as begin
 use Rattle.txn_manager.specs.RunningList.{start_of}
+use Rattle.txn_manager.specs.RunningList as list
 use Rattle.txn_manager.specs.Transactions.{Transactions, begin_refusal, begun}
 use Rattle.world_model.specs.declared.event.Ask.{Ask}
 use Rattle.world_model.specs.declared.event.Ask.TheVariants.{CreateVertex, SetVertexProp, SetEdgeProp}
@@ -44,7 +45,9 @@ use Rattle.front_core.specs.declared.decision.Decision.{Decision}
 use Rattle.front_core.specs.declared.decision.Decision.TheVariants.{Refuse, Unchanged, Set}
 use Rattle.front_core.specs.Versions.{Versions, no_versions, seen_object, is_draft_of}
 use Rattle.front_core.specs.Decision.{row_rival, unless_rival, effect, set_decision}
+use Rattle.front_core.specs.declared.writes.CallerWrites.{CallerWrites}
 use Rattle.front_core.specs.Writes.{vertices_of}
+use Rattle.front_core.specs.Commits.{commit_listed}
 use Rattle.front_core.specs.Drafted.{Drafted, drafted}
 use Rattle.front_core.specs.Finished.{Finished, is_listed}
 use Rattle.front_core.specs.Keeps.{Kept, Keeps, FitsRow, row_at}
@@ -101,6 +104,10 @@ closed_txn k w c keeps h = by_found (txn_of w c) refl
       where
         some_none : ◌≡◌ {A = Option ℕ} (Some p.start) None → ⊥
         some_none h = cc
+
+pub no_start : (o : Option ℕ) → is_some o ≡ false → o ≡ None
+no_start None h = refl
+no_start (Some n) h = absurd (false≢true (sym h))
 
 -- an event but a begin, without a transaction
 pub obeys_read_closed : (k : Kept) (w : World) (c : ℕ) (x : Oid) (when : When) → Keeps k w → start_of k.transactions.running c ≡ None → Obeys w k (entry c (event.Read x when) (answer.Refused NoTxn))
@@ -318,16 +325,58 @@ pub begin_accepted : (k : Kept) (w : World) (c start : ℕ) (t : Transactions) (
     Obeys w (record k { transactions = t }) (entry c event.Begin r)
 begin_accepted k w c start t r keeps free at after told =
     subst (λ (u : Transactions). Obeys w (record k { transactions = u }) (entry c event.Begin r)) (sym after)
-      (subst (λ (a : Answer). Obeys w (record k { transactions = begun k.transactions c }) (entry c event.Begin a)) (sym told) (obeys_begun k w c start keeps free at))
+    (subst (λ (a : Answer). Obeys w (record k { transactions = begun k.transactions c }) (entry c event.Begin a)) (sym told) (obeys_begun k w c start keeps free at))
 
 pub begin_refused : (k : Kept) (w : World) (c : ℕ) (why : BeginRefused) (t : Transactions) (r : Answer) → Keeps k w →
     IfSome (begin_refusal k.transactions c) (λ x. ◌≡◌ {A = Result ℕ BeginRefused} (Err why) (Err x)) → (begin_refusal k.transactions c ≡ Some why) ⊎ (why ≡ begin.NoMemory) → t ≡ k.transactions → r ≡ answer.Refused (refused_begin why) →
     Obeys w (record k { transactions = t }) (entry c event.Begin r)
 begin_refused k w c why t r keeps exact reason same told =
     subst (λ (u : Transactions). Obeys w (record k { transactions = u }) (entry c event.Begin r)) (sym same)
-      (subst (λ (a : Answer). Obeys w k (entry c event.Begin a)) (sym told) (by_refusal (begin_refusal k.transactions c) refl exact reason))
+    (subst (λ (a : Answer). Obeys w k (entry c event.Begin a)) (sym told) (by_refusal (begin_refusal k.transactions c) refl exact reason))
   where
     by_refusal : (o : Option BeginRefused) → begin_refusal k.transactions c ≡ o → IfSome o (λ x. ◌≡◌ {A = Result ℕ BeginRefused} (Err why) (Err x)) → (o ≡ Some why) ⊎ (why ≡ begin.NoMemory) → Obeys w k (entry c event.Begin (answer.Refused (refused_begin why)))
     by_refusal (Some x) e h reason = let is : why ≡ x = cc in obeys_begin_refused k w c why keeps (e ∙ ap Some (sym is))
     by_refusal None e h (inl none) = absurd cc
     by_refusal None e h (inr wanting) = subst (λ (x : BeginRefused). Obeys w k (entry c event.Begin (answer.Refused (refused_begin x)))) (sym wanting) (obeys_begin_no_memory k w c keeps e)
+
+listed_test : (vs : List ℕ) (empty : Bool) → (empty ≡ true → vs ≡ []) → (vs ≡ [] → empty ≡ true) → not empty ≡ is_listed vs
+listed_test [] empty a b = ap not (b refl)
+listed_test (v ∷ vs) true a b = absurd (no_cons (a refl))
+  where
+    no_cons : v ∷ vs ≡ [] → ⊥
+    no_cons h = cc
+listed_test (v ∷ vs) false a b = refl
+
+-- the end of a transaction, by its parts
+pub commit_answer : (k : Kept) (w : World) (c : ℕ) (vs : List ℕ) (ts number : ℕ) (t : Transactions) (rows : List Versions) (writes : List CallerWrites) (empty : Bool) →
+    Keeps k w → is_some (start_of k.transactions.running c) ≡ true →
+    vs ≡ vertices_of k.writes c → ((d : ℕ) → vertices_of writes d ≡ cond (nat_eq c d) [] (vertices_of k.writes d)) →
+    ts ≡ k.transactions.clock → (empty ≡ true → vs ≡ []) × (vs ≡ [] → empty ≡ true) →
+    (not empty ≡ true → number ≡ k.transactions.clock) → (not empty ≡ false → start_of k.transactions.running c ≡ Some number) →
+    t.clock ≡ cond (not empty) (k.transactions.clock + 1) k.transactions.clock → t.running ≡ list.without c k.transactions.running →
+    rows ≡ commit_listed ts k.first vs k.rows →
+    Obeys w (record { transactions = t; first = k.first; rows = rows; edges = k.edges; writes = writes }) (entry c event.Commit (answer.Committed number))
+commit_answer k w c vs ts number t rows writes empty keeps found listed left at emptied written read clock others committed_rows =
+    by_start (start_of k.transactions.running c) refl found
+  where
+    wrote : not empty ≡ is_listed (vertices_of k.writes c)
+    wrote = listed_test vs empty emptied.0 emptied.1 ∙ ap is_listed listed
+
+    finished : Finished k (record { transactions = t; first = k.first; rows = rows; edges = k.edges; writes = writes }) c
+    finished = record {
+      transactions = ap (λ (n : ℕ). record { clock = n; running = t.running }) (clock ∙ ap (λ b. cond b (k.transactions.clock + 1) k.transactions.clock) wrote)
+          ∙ ap (λ (rs : List Running). record { clock = cond (is_listed (vertices_of k.writes c)) (k.transactions.clock + 1) k.transactions.clock; running = rs }) others;
+      first = refl;
+      edges = refl;
+      rows = committed_rows ∙ ap (λ n. commit_listed n k.first vs k.rows) at ∙ ap (λ us. commit_listed k.transactions.clock k.first us k.rows) listed;
+      writes = left;
+    }
+
+    number_is : (start : ℕ) → start_of k.transactions.running c ≡ Some start → (b : Bool) → not empty ≡ b → number ≡ cond b k.transactions.clock start
+    number_is start e true h = written h
+    number_is start e false h = drafts.some_same (sym (read h) ∙ e)
+
+    by_start : (o : Option ℕ) → start_of k.transactions.running c ≡ o → is_some o ≡ true → Obeys w (record { transactions = t; first = k.first; rows = rows; edges = k.edges; writes = writes }) (entry c event.Commit (answer.Committed number))
+    by_start None e h = absurd (false≢true h)
+    by_start (Some start) e h =
+        obeys_commit k w c start number keeps e (number_is start e (not empty) refl ∙ ap (λ b. cond b k.transactions.clock start) wrote) (record { transactions = t; first = k.first; rows = rows; edges = k.edges; writes = writes }) finished

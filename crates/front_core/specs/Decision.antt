@@ -1,5 +1,5 @@
 -- What the core finds of a write before it changes anything.
-use Rattle.std.specs.Prelude.{ℕ, List, Option, Some, None, Bool, nat_eq, if◌then◌else◌}
+use Rattle.std.specs.Prelude.{ℕ, List, Option, Some, None, Bool, ◌≡◌, nat_eq, option_map, if◌then◌else◌}
 use Rattle.graph_value.specs.declared.value.Value.{Value}
 use Rattle.graph_value.specs.declared.id.VertexId.{VertexId}
 use Rattle.graph_value.specs.declared.id.Oid.TheVariants.{Vertex}
@@ -17,10 +17,19 @@ use Rattle.front_core.specs.declared.decision.Decision.{Decision}
 use Rattle.front_core.specs.declared.decision.Decision.TheVariants.{Refuse, Unchanged, Set}
 use Rattle.front_core.specs.Versions.{Versions, newest_stamp, seen_object}
 
+-- the start of a writer that is another caller
+abbrev pub other_start_of : List Running → ℕ → Option ℕ → Option ℕ
+other_start_of running caller None = None
+other_start_of running caller (Some writer) = if nat_eq writer caller then None else start_of running writer
+
 -- the start of another writer, as the draft tells it
 abbrev pub other_start : List Running → ℕ → Option Draft → Option ℕ
-other_start running caller None = None
-other_start running caller (Some d) = if nat_eq d.caller caller then None else start_of running d.caller
+other_start running caller draft = other_start_of running caller (option_map (λ d. d.caller) draft)
+
+-- no other caller has a draft
+abbrev pub IsFree : ℕ → Option Draft → Type 0
+IsFree caller None = Unit {0}
+IsFree caller (Some d) = d.caller ≡ caller
 
 -- who stands in the way of the caller's write to a row
 abbrev pub row_rival : List Running → ℕ → ℕ → Versions → Option Rival

@@ -9,6 +9,7 @@ mod row;
 mod state;
 mod version;
 mod writes;
+mod writing;
 
 pub use state::Core;
 use std::alloc::AllocError;

@@ -115,9 +115,9 @@ impl Row {
 }
 
 /// Commits the row of each listed vertex under the timestamp. A vertex's row has its number less the base.
-pub fn commit_rows(rows: &mut [Row], base: u64, vertices: &[u64], ts: u64)
-    requires { IsTrue (list_all (λ v. nat_le base v && nat_lt (v - base) (length rows.old)) vertices.now) }
-    ensures { rows.new ≡ commit_listed ts base vertices.now rows.old }
+pub fn commit_rows(rows: &mut Vec<Row>, base: u64, vertices: &[u64], ts: u64)
+    requires { IsTrue (list_all (λ v. nat_le base v && nat_lt (v - base) (length rows.old.items)) vertices.now) }
+    ensures { rows.new.items ≡ commit_listed ts base vertices.now rows.old.items }
 {
     for vertex in vertices {
         rows[(*vertex - base) as usize].commit(ts);
@@ -140,7 +140,7 @@ fn newest_below(versions: &[Version], ts: u64) -> Option<&Object>
 }
 
 /// Gives the name this value among the properties of the object, if it is alive.
-fn set_property(object: &mut Object, name: Name, value: Value) -> Result<(), NoMemory>
+pub(crate) fn set_property(object: &mut Object, name: Name, value: Value) -> Result<(), NoMemory>
     ensures ok { OnOk result (object.new ≡ with_property name value object.old) }
     ensures err { OnErr result (object.new ≡ object.old) }
 {

@@ -73,4 +73,23 @@ impl Core {
             writes: Writes::new(alloc),
         })
     }
+
+    /// Answers a caller's event.
+    ///
+    /// For every legal history that the core stands for, the answer is the one that the history's world gives, or
+    /// `NoMemory` where nothing else is refused and the event is no commit; afterwards the core stands for the history
+    /// with this entry. A refusal leaves the same world.
+    pub fn step(&mut self, alloc: Global, caller: u64, event: Event) -> Answer
+        ensures answered { (s : Start) (es : List Entry) → StandsFor s self.old es →
+            IsAnswered (run (start_world s) es) (record { caller = caller; event = event; reply = result }) }
+        ensures stands { (s : Start) (es : List Entry) → StandsFor s self.old es →
+            StandsFor s self.new (es ++ record { caller = caller; event = event; reply = result } ∷ []) }
+    {
+        match event {
+            Event::Begin => self.begin(caller),
+            Event::Read { x, when } => self.read(alloc, caller, x, when),
+            Event::Write(ask) => self.write(alloc, caller, ask),
+            Event::Commit => self.commit(alloc, caller),
+        }
+    }
 }

@@ -4,6 +4,6 @@ use Rattle.front_core.proofs.row.commit_rows.Given as goal
 
 abbrev pub invariant-loop-vertex : goal.invariant-loop-vertex
 invariant-loop-vertex l = record {
-  rest : commit_listed l.ts l.base (drop l.vertex-index l.vertices) l.rows ≡ commit_listed l.ts l.base l.vertices l.initial.rows;
-  same_length : length l.rows ≡ length l.initial.rows;
+  rest : commit_listed l.ts l.base (drop l.vertex-index l.vertices) l.rows.items ≡ commit_listed l.ts l.base l.vertices l.initial.rows.items;
+  same_length : length l.rows.items ≡ length l.initial.rows.items;
 }

@@ -18,9 +18,9 @@ entry c = record { caller = c.args.caller; event = Begin; reply = c.match-begin.
 
 obeys : (c : Joined-begin) (w : World) → Keeps (kept c) w → Obeys w (record (kept c) { transactions = c.begin.new.self }) (entry c)
 obeys c w keeps = elim c.match-begin.branch [
-    | in-Ok a ↦ begin_accepted (kept c) w c.args.caller a.in-Ok.start c.begin.new.self c.match-begin.result keeps a.in-Ok.ensures.accepted a.in-Ok.ensures.start a.in-Ok.ensures.begun a.result-is
-    | in-Err a ↦ begin_refused (kept c) w c.args.caller a.in-Err.why c.begin.new.self c.match-begin.result keeps a.in-Err.ensures.refused a.in-Err.ensures.reason a.in-Err.ensures.unchanged (a.result-is ∙ ap Refused a.refused_begin.ensures)
-  ]
+  | in-Ok a ↦ begin_accepted (kept c) w c.args.caller a.in-Ok.start c.begin.new.self c.match-begin.result keeps a.in-Ok.ensures.accepted a.in-Ok.ensures.start a.in-Ok.ensures.begun a.result-is
+  | in-Err a ↦ begin_refused (kept c) w c.args.caller a.in-Err.why c.begin.new.self c.match-begin.result keeps a.in-Err.ensures.refused a.in-Err.ensures.reason a.in-Err.ensures.unchanged (a.result-is ∙ ap Refused a.refused_begin.ensures)
+]
 
 pub invariant_of-self : goal.invariant_of-self
 invariant_of-self c = let w = c.self.invariant.0 in (world_after w (entry c), (obeys c w c.self.invariant.1).keeps)
