@@ -1,5 +1,5 @@
 -- What the core keeps after the end of a transaction is the next world.
-use Rattle.std.proofs.Common.{◌≡◌, ◌≢◌, ℕ, suc, ◌+◌, ◌-◌, ◌<◌, ◌≤◌, List, [], ◌∷◌, ◌++◌, Option, Some, None, Bool, true, false, not, ◌&&◌, ◌||◌, cond, length, get_or, refl, sym, ap, subst, ◌∙◌, ◌⊎◌, inl, inr, arith, map}
+use Rattle.std.proofs.Common.{◌≡◌, ℕ, ◌+◌, ◌-◌, ◌≤◌, List, [], ◌∷◌, ◌++◌, Option, Some, None, Bool, true, false, not, ◌&&◌, ◌||◌, cond, length, get_or, refl, sym, ap, subst, ◌∙◌, arith, map}
 use Rattle.std.specs.Prelude.{nat_eq, nat_lt, nat_le}
 use Rattle.std.specs.List.{list_any, list_all}
 use Rattle.std.proofs.lemmas.Bool.{false≢true}
@@ -9,16 +9,15 @@ use Rattle.graph_value.specs.declared.id.VertexId.{VertexId}
 use Rattle.graph_value.specs.declared.id.EdgeId.{EdgeId}
 use Rattle.graph_value.specs.declared.id.Oid.{Oid}
 use Rattle.graph_value.specs.declared.id.Oid.TheVariants.{Vertex, Edge}
-use Rattle.graph_record.specs.declared.object.Object.{Object}
 use Rattle.graph_record.specs.declared.object.Object.TheVariants.{Dead}
 use Rattle.graph_record.specs.Graph.{Graph, empty_graph, object_at, is_dead}
 use Rattle.txn_manager.specs.declared.running.Running.{Running}
 use Rattle.txn_manager.specs.RunningList as list
 use Rattle.txn_manager.specs.Transactions.{Transactions}
 use Rattle.world_model.specs.Op.{Op, create_vertex, set_vertex_property, set_edge_property, apply, apply_all, is_touched, are_touching, is_possible, changes, are_sound}
-use Rattle.world_model.specs.Change.{object_after, object_after_all}
-use Rattle.world_model.specs.World.{World, Commit, Txn, find_txn, txn_of, view_of, fold_of, ops_of, before, transactions_of, InOrder}
-use Rattle.world_model.specs.Step.{without, Outcome, committed}
+use Rattle.world_model.specs.Change.{object_after_all}
+use Rattle.world_model.specs.World.{World, Txn, find_txn, txn_of, fold_of, ops_of, before}
+use Rattle.world_model.specs.Step.{without, committed}
 use Rattle.world_model.proofs.Objects.{object_at-apply_all}
 use Rattle.world_model.proofs.Folds.{and_left_true, and_right_true, both_true, nat_eq_refl}
 use Rattle.world_model.proofs.Begins.{touching_none}
@@ -32,7 +31,7 @@ use Rattle.front_core.specs.Finished.{Finished, is_listed}
 use Rattle.front_core.specs.Keeps.{Kept, Keeps, FitsRow, FitsDraft, row_at}
 use Rattle.front_core.proofs.CommitsLemmas.{get_or-commit_listed, length-commit_listed}
 use Rattle.front_core.proofs.RowPlaces.{row_of}
-use Rattle.front_core.proofs.Drafts.{equal_of, test_of, some_same, differ_of}
+use Rattle.front_core.proofs.Drafts.{equal_of, some_same, differ_of}
 use Rattle.front_core.proofs.Fits.{left_row, other_row, own_row, committed_world, left_world}
 
 -- a test that each listed number passes holds of the list

@@ -1,30 +1,23 @@
 -- What a row tells a reader and a writer is what the world says.
-use Rattle.std.proofs.Common.{◌≡◌, ◌≢◌, ℕ, suc, ◌+◌, ◌<◌, ◌≤◌, List, [], ◌∷◌, ◌++◌, Option, Some, None, Bool, true, false, not, ◌&&◌, ◌||◌, cond, length, refl, sym, ap, subst, ◌∙◌, ◌⊎◌, inl, inr, arith, map, filter}
-use Rattle.std.specs.Prelude.{nat_eq, nat_lt, nat_le, option_map, All, AllPairs}
-use Rattle.std.specs.List.{list_any, list_all}
+use Rattle.std.proofs.Common.{◌≡◌, ◌≢◌, ℕ, suc, List, [], ◌∷◌, Option, Some, None, Bool, true, false, not, ◌&&◌, cond, refl, sym, ap, subst, ◌∙◌, arith, map, filter}
+use Rattle.std.specs.Prelude.{nat_eq, nat_lt, option_map, All, AllPairs}
 use Rattle.std.proofs.lemmas.Bool.{false≢true}
 use Rattle.std.proofs.lemmas.Bool.Decides.{nat_tests}
 use Rattle.graph_value.specs.declared.id.Oid.{Oid}
 use Rattle.graph_record.specs.declared.object.Object.{Object}
-use Rattle.graph_record.specs.declared.object.Object.TheVariants.{Dead}
-use Rattle.graph_record.specs.Graph.{Graph, empty_graph, object_at}
-use Rattle.txn_manager.specs.declared.running.Running.{Running}
-use Rattle.txn_manager.specs.declared.rivals.Rival.{Rival}
+use Rattle.graph_record.specs.Graph.{empty_graph, object_at}
 use Rattle.txn_manager.specs.RunningList.{start_of}
-use Rattle.txn_manager.specs.Transactions.{Transactions, IsReady}
 use Rattle.txn_manager.specs.Conflict.{rival_of}
-use Rattle.world_model.specs.Op.{Op, apply_all, are_touching}
-use Rattle.world_model.specs.Change.{object_after_all}
-use Rattle.world_model.specs.World.{World, Commit, Txn, find_txn, txn_of, view_of, fold_of, ops_of, before, transactions_of, InOrder, other_writer, newest_touch, rival_at, touched_after}
+use Rattle.world_model.specs.Op.{are_touching}
+use Rattle.world_model.specs.World.{World, Txn, find_txn, txn_of, view_of, fold_of, ops_of, before, transactions_of, InOrder, other_writer, newest_touch, rival_at}
 use Rattle.world_model.proofs.Objects.{object_at-apply_all, untouched}
 use Rattle.world_model.proofs.Folds.{empty_dead}
-use Rattle.world_model.proofs.Txns.{found_caller, nobody_else}
+use Rattle.world_model.proofs.Txns.{nobody_else}
 use Rattle.world_model.proofs.Lists.{bare, start_of-map}
-use Rattle.front_core.specs.declared.version.Version.{Version}
 use Rattle.front_core.specs.declared.version.Draft.{Draft}
 use Rattle.front_core.specs.Versions.{Versions, newest_stamp, newest_object, object_below, seen_object, seen_or}
 use Rattle.front_core.specs.Decision.{other_start}
-use Rattle.front_core.specs.Keeps.{Kept, FitsDraft, FitsRow, versions_of, versions_from}
+use Rattle.front_core.specs.Keeps.{FitsDraft, FitsRow}
 use Rattle.front_core.proofs.VersionLists.{versions_at, versions_from-object, newest_object-or, newest_below, newest_stamp-touch, newest_or}
 
 pub equal_of : (a b : ℕ) → nat_eq a b ≡ true → a ≡ b

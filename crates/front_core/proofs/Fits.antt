@@ -1,14 +1,14 @@
 -- How the row of an object fits the world after a begin, a write and a commit.
-use Rattle.std.proofs.Common.{◌≡◌, ◌≢◌, ℕ, suc, ◌+◌, ◌<◌, ◌≤◌, List, [], ◌∷◌, ◌++◌, Option, Some, None, Bool, true, false, not, ◌&&◌, ◌||◌, cond, length, refl, sym, ap, subst, ◌∙◌, ◌⊎◌, inl, inr, arith, map, filter}
+use Rattle.std.proofs.Common.{◌≡◌, ℕ, ◌+◌, ◌<◌, List, [], ◌∷◌, ◌++◌, Option, Some, None, Bool, true, false, ◌||◌, cond, refl, sym, ap, subst, ◌∙◌, inl, inr, arith}
 use Rattle.std.specs.Prelude.{nat_eq, nat_lt, nat_le}
 use Rattle.std.proofs.lemmas.Bool.{false≢true}
 use Rattle.std.proofs.lemmas.Bool.Decides.{nat_tests}
 use Rattle.graph_value.specs.declared.id.Oid.{Oid}
 use Rattle.graph_record.specs.declared.object.Object.{Object}
 use Rattle.graph_record.specs.Graph.{Graph, empty_graph, object_at}
-use Rattle.world_model.specs.Op.{Op, apply, apply_all, are_touching, is_touched}
+use Rattle.world_model.specs.Op.{Op, apply_all, are_touching, is_touched}
 use Rattle.world_model.specs.Change.{object_after, object_after_all, changed}
-use Rattle.world_model.specs.World.{World, Commit, Txn, find_txn, txn_of, view_of, fold_of, ops_of, before, transactions_of, InOrder}
+use Rattle.world_model.specs.World.{World, Commit, Txn, find_txn, txn_of, view_of, fold_of, ops_of, before, InOrder}
 use Rattle.world_model.specs.Step.{or_else, with_op, without, begun_world, written_world}
 use Rattle.world_model.proofs.Objects.{object_at-apply, object_at-apply_all, apply_all-append, are_touching-append, object_after_all-append}
 use Rattle.world_model.proofs.Txns.{find_txn-append, find_txn-with_op, find_txn-without, with_write}
@@ -16,12 +16,12 @@ use Rattle.world_model.proofs.Begins.{begun_found, fresh, no_touch, touching_non
 use Rattle.world_model.proofs.Writes.{Written, own, others, written_found}
 use Rattle.world_model.proofs.Commits.{left_found}
 use Rattle.world_model.proofs.Lists.{started_below}
-use Rattle.world_model.proofs.Folds.{seen_before, before-one, ops_of-one}
+use Rattle.world_model.proofs.Folds.{seen_before, before-one}
 use Rattle.front_core.specs.declared.version.Version.{Version}
 use Rattle.front_core.specs.declared.version.Draft.{Draft}
 use Rattle.front_core.specs.Versions.{Versions, committed_as, is_draft_of}
-use Rattle.front_core.specs.Keeps.{FitsDraft, FitsRow, versions_of, versions_from}
-use Rattle.front_core.proofs.VersionLists.{versions_at, versions_from-object, versions_at-one}
+use Rattle.front_core.specs.Keeps.{FitsDraft, FitsRow, versions_of}
+use Rattle.front_core.proofs.VersionLists.{versions_from-object, versions_at-one}
 use Rattle.front_core.proofs.Drafts.{equal_of, test_of, some_same, differ_of}
 
 -- a transaction that is found stays found when another one begins

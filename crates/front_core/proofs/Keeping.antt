@@ -1,31 +1,30 @@
 -- What the core keeps after a begin and a write is the next world.
-use Rattle.std.proofs.Common.{◌≡◌, ◌≢◌, ℕ, suc, ◌+◌, ◌-◌, ◌<◌, ◌≤◌, List, [], ◌∷◌, ◌++◌, Option, Some, None, Bool, true, false, not, ◌&&◌, ◌||◌, cond, length, refl, sym, ap, subst, ◌∙◌, ◌⊎◌, inl, inr, arith, map}
-use Rattle.std.specs.Prelude.{nat_eq, nat_lt, nat_le}
+use Rattle.std.proofs.Common.{◌≡◌, ℕ, ◌+◌, List, Option, Some, None, Bool, true, false, ◌&&◌, ◌||◌, cond, length, refl, sym, ap, subst, ◌∙◌, arith}
+use Rattle.std.specs.Prelude.{nat_eq}
 use Rattle.std.specs.List.{list_any}
 use Rattle.std.proofs.lemmas.Bool.{false≢true}
-use Rattle.std.proofs.lemmas.Bool.Decides.{nat_tests}
 use Rattle.graph_value.specs.declared.id.VertexId.{VertexId}
 use Rattle.graph_value.specs.declared.id.Oid.{Oid}
 use Rattle.graph_value.specs.declared.id.Oid.TheVariants.{Vertex, Edge}
 use Rattle.graph_record.specs.declared.object.Object.{Object}
-use Rattle.graph_record.specs.Graph.{Graph, object_at}
+use Rattle.graph_record.specs.Graph.{object_at}
 use Rattle.txn_manager.specs.declared.running.Running.{Running}
-use Rattle.txn_manager.specs.Transactions.{Transactions, IsReady, begin_refusal, begun}
-use Rattle.world_model.specs.Op.{Op, touches, is_touched, same_oid, are_touching}
+use Rattle.txn_manager.specs.Transactions.{Transactions, begin_refusal, begun}
+use Rattle.world_model.specs.Op.{Op, is_touched, same_oid}
 use Rattle.world_model.specs.Change.{changed}
-use Rattle.world_model.specs.World.{World, Txn, find_txn, txn_of, view_of, transactions_of, InOrder, rival_at}
-use Rattle.world_model.specs.Step.{begun_world, written_world, with_op, vertices_made}
+use Rattle.world_model.specs.World.{World, Txn, txn_of, view_of, transactions_of, InOrder, rival_at}
+use Rattle.world_model.specs.Step.{begun_world, written_world, vertices_made}
 use Rattle.world_model.proofs.Objects.{or_false}
 use Rattle.world_model.proofs.Begins.{begin_keeps_order, fresh}
 use Rattle.world_model.proofs.Writes.{target, touches_target, free_of_others}
 use Rattle.world_model.proofs.Txns.{found_caller}
-use Rattle.world_model.proofs.Lists.{map-one, map-with_op, bare}
+use Rattle.world_model.proofs.Lists.{map-one, map-with_op}
 use Rattle.front_core.specs.declared.version.Draft.{Draft}
 use Rattle.front_core.specs.Versions.{Versions, no_versions, is_draft_of}
 use Rattle.front_core.specs.Writes.{vertices_of}
 use Rattle.front_core.specs.Drafted.{Drafted, drafted}
 use Rattle.front_core.specs.Keeps.{Kept, Keeps, FitsRow, FitsDraft, row_at}
-use Rattle.front_core.proofs.Drafts.{equal_of, test_of, differ_of}
+use Rattle.front_core.proofs.Drafts.{equal_of, test_of}
 use Rattle.front_core.proofs.Fits.{begun_row, written_beside, written_at}
 
 -- a begin

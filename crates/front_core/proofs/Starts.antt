@@ -1,16 +1,20 @@
 -- A new core keeps the world that nothing has happened in, and a step of the world is a step of its history.
-use Rattle.std.proofs.Common.{◌≡◌, ℕ, ◌+◌, ◌-◌, ◌^◌, ◌<◌, ◌≤◌, List, [], ◌∷◌, ◌++◌, Option, Some, None, Bool, true, false, cond, length, get_or, refl, sym, ap, subst, ◌∙◌, arith}
-use Rattle.std.specs.Prelude.{nat_eq, nat_lt}
+use Rattle.std.proofs.Common.{◌≡◌, ℕ, ◌-◌, List, [], ◌∷◌, ◌++◌, Bool, true, false, cond, get_or, refl, sym, ap, subst, ◌∙◌, arith}
+use Rattle.std.specs.Prelude.{nat_lt}
 use Rattle.graph_value.specs.declared.id.Oid.{Oid}
 use Rattle.graph_value.specs.declared.id.Oid.TheVariants.{Vertex, Edge}
 use Rattle.txn_manager.specs.Transactions.{Transactions}
-use Rattle.world_model.specs.World.{World, Start, start_world, Txn, find_txn, txn_of}
-use Rattle.world_model.specs.History.{Entry, IsAnswered, IsStart, IsLegal, AreAnswered, run, world_after}
+use Rattle.world_model.specs.declared.event.Event.{Event}
+use Rattle.world_model.specs.declared.answer.Answer.{Answer}
+use Rattle.world_model.specs.Replies.{IsReplyTo}
+use Rattle.world_model.proofs.Replies.{answer_replies}
+use Rattle.world_model.specs.World.{Start, start_world, find_txn}
+use Rattle.world_model.specs.History.{Entry, IsAnswered, IsStart, AreAnswered, run}
 use Rattle.world_model.proofs.Histories.{start_in_order, run-append, answered-append}
 use Rattle.front_core.specs.declared.writes.CallerWrites.{CallerWrites}
 use Rattle.front_core.specs.Versions.{Versions, no_versions}
-use Rattle.front_core.specs.Keeps.{Kept, Keeps, FitsRow, FitsDraft, row_at, versions_from, StandsFor}
-use Rattle.front_core.specs.Obeys.{Obeys, ObeysAll}
+use Rattle.front_core.specs.Keeps.{Kept, Keeps, FitsRow, row_at, versions_from, StandsFor, KeepsSome}
+use Rattle.front_core.specs.Obeys.{ObeysAll}
 
 abbrev pub new_kept : Start → Kept
 new_kept s = record { transactions = record { clock = s.clock; running = [] }; first = s.vertices; rows = []; edges = s.edges; writes = [] }
@@ -69,3 +73,7 @@ same_new s t rows writes a b d =
     sym (ap (λ (u : Transactions). record { transactions = u; first = s.vertices; rows = rows; edges = s.edges; writes = writes }) a
     ∙ ap (λ (rs : List Versions). record { transactions = record { clock = s.clock; running = [] }; first = s.vertices; rows = rs; edges = s.edges; writes = writes }) b
     ∙ ap (λ (ws : List CallerWrites). record { transactions = record { clock = s.clock; running = [] }; first = s.vertices; rows = []; edges = s.edges; writes = ws }) d)
+
+-- the answer belongs to its event, since the core keeps some world
+pub fits_event : (k k' : Kept) (c : ℕ) (e : Event) (r : Answer) → KeepsSome k → ObeysAll k k' (record { caller = c; event = e; reply = r }) → IsReplyTo e r
+fits_event k k' c e r some obeys = answer_replies some.0 c e r (obeys some.0 some.1).answered

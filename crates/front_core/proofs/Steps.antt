@@ -1,9 +1,7 @@
 -- Each answer of the core, as a step of the world that it keeps.
-use Rattle.std.proofs.Common.{◌≡◌, ◌≢◌, ℕ, suc, ◌+◌, ◌-◌, ◌^◌, ◌<◌, ◌≤◌, List, [], ◌∷◌, ◌++◌, Option, Some, None, Bool, true, false, not, ◌&&◌, ◌||◌, cond, length, get_or, refl, sym, ap, subst, ◌∙◌, ◌⊎◌, inl, inr, arith, map}
-use Rattle.std.specs.Prelude.{nat_eq, nat_lt, nat_le, option_map, is_some, IfSome, Result, Err}
-use Rattle.std.specs.List.{list_any, list_all}
+use Rattle.std.proofs.Common.{◌≡◌, ℕ, ◌+◌, ◌^◌, List, [], ◌∷◌, ◌++◌, Option, Some, None, Bool, true, false, not, cond, length, refl, sym, ap, subst, ◌∙◌, ◌⊎◌, inl, inr, arith}
+use Rattle.std.specs.Prelude.{nat_eq, nat_le, is_some, IfSome, Result, Err}
 use Rattle.std.proofs.lemmas.Bool.{false≢true}
-use Rattle.std.proofs.lemmas.Bool.Decides.{nat_tests}
 use Rattle.graph_value.specs.declared.value.Value.{Value}
 use Rattle.graph_value.specs.declared.id.VertexId.{VertexId}
 use Rattle.graph_value.specs.declared.id.EdgeId.{EdgeId}
@@ -25,32 +23,29 @@ use Rattle.world_model.specs.declared.event.Ask.TheVariants.{CreateVertex, SetVe
 use Rattle.world_model.specs.declared.event.Event.{Event}
 use Rattle.world_model.specs.declared.event.Event.TheVariants as event
 use Rattle.world_model.specs.declared.event.When.{When}
-use Rattle.world_model.specs.declared.event.When.TheVariants.{Own}
 use Rattle.world_model.specs.declared.answer.Answer.{Answer}
 use Rattle.world_model.specs.declared.answer.Answer.TheVariants as answer
 use Rattle.world_model.specs.declared.answer.Wrote.TheVariants as wrote
 use Rattle.world_model.specs.declared.answer.Refused.{Refused}
 use Rattle.world_model.specs.declared.answer.Refused.TheVariants.{NoTxn, Missing, Conflict, IdEnd, NoMemory}
-use Rattle.world_model.specs.Op.{Op, create_vertex, set_vertex_property, set_edge_property, apply_all, changes, is_value, property_of, touches}
-use Rattle.world_model.specs.Change.{changed, with_property}
-use Rattle.world_model.specs.World.{World, Txn, find_txn, txn_of, view_of, fold_of, ops_of, before, transactions_of, InOrder, rival_at}
+use Rattle.world_model.specs.Op.{Op, changes, is_value, property_of, touches}
+use Rattle.world_model.specs.Change.{with_property}
+use Rattle.world_model.specs.World.{World, Txn, txn_of, view_of, ops_of, before, transactions_of, InOrder, rival_at}
 use Rattle.world_model.specs.Step.{Outcome, step, refused, refused_begin, begin_step, read_step, write_step, commit_step, allowed_write_step, effect_step, written_world, write_refusal, missing, conflict, conflict_at, id_end, named, op_of, or_else, committed}
-use Rattle.world_model.specs.History.{Entry, IsAnswered, world_after, is_no_memory, is_refused, is_refusal_no_memory, no_memory, may_want, takes_memory}
+use Rattle.world_model.specs.History.{Entry, is_no_memory, is_refused, is_refusal_no_memory, may_want}
 use Rattle.world_model.proofs.Objects.{apply_all-append}
-use Rattle.world_model.proofs.Writes.{write_keeps_order, unborn}
-use Rattle.world_model.proofs.Order.{step_keeps_order}
-use Rattle.world_model.proofs.Lists.{start_of-map, start_of-none, bare}
-use Rattle.front_core.specs.declared.version.Draft.{Draft}
+use Rattle.world_model.proofs.Writes.{write_keeps_order}
+use Rattle.world_model.proofs.Lists.{start_of-map, start_of-none}
 use Rattle.front_core.specs.declared.decision.Decision.{Decision}
 use Rattle.front_core.specs.declared.decision.Decision.TheVariants.{Refuse, Unchanged, Set}
-use Rattle.front_core.specs.Versions.{Versions, no_versions, seen_object, is_draft_of}
+use Rattle.front_core.specs.Versions.{Versions, no_versions, seen_object}
 use Rattle.front_core.specs.Decision.{row_rival, unless_rival, effect, set_decision}
 use Rattle.front_core.specs.declared.writes.CallerWrites.{CallerWrites}
 use Rattle.front_core.specs.Writes.{vertices_of}
 use Rattle.front_core.specs.Commits.{commit_listed}
 use Rattle.front_core.specs.Drafted.{Drafted, drafted}
 use Rattle.front_core.specs.Finished.{Finished, is_listed}
-use Rattle.front_core.specs.Keeps.{Kept, Keeps, FitsRow, row_at}
+use Rattle.front_core.specs.Keeps.{Kept, Keeps, row_at}
 use Rattle.front_core.specs.Obeys.{Obeys}
 use Rattle.front_core.proofs.Drafts as drafts
 use Rattle.front_core.proofs.Keeping.{keeps_begun, keeps_drafted}

@@ -1,20 +1,19 @@
 -- The versions of an object, told from the object alone, and what a reader and a writer find in them.
-use Rattle.std.proofs.Common.{◌≡◌, ℕ, ◌+◌, ◌<◌, ◌≤◌, List, [], ◌∷◌, ◌++◌, Option, Some, None, Bool, true, false, not, ◌&&◌, ◌||◌, cond, max, refl, sym, ap, subst, ◌∙◌, arith, rules, filter, map, fold}
-use Rattle.std.specs.Prelude.{nat_eq, nat_lt, nat_le}
-use Rattle.std.specs.List.{list_any, list_all}
-use Rattle.std.proofs.lemmas.Bool.{false≢true}
+use Rattle.std.proofs.Common.{◌≡◌, ℕ, ◌<◌, List, [], ◌∷◌, ◌++◌, Option, Some, None, Bool, true, false, ◌&&◌, cond, max, refl, sym, ap, ◌∙◌, arith, filter, map, fold}
+use Rattle.std.specs.Prelude.{nat_lt}
+use Rattle.std.specs.List.{list_all}
 use Rattle.std.proofs.lemmas.Bool.Decides.{nat_tests}
 use Rattle.graph_value.specs.declared.id.Oid.{Oid}
 use Rattle.graph_record.specs.declared.object.Object.{Object}
 use Rattle.graph_record.specs.declared.object.Object.TheVariants.{Dead}
-use Rattle.graph_record.specs.Graph.{Graph, empty_graph, object_at}
+use Rattle.graph_record.specs.Graph.{Graph, object_at}
 use Rattle.world_model.specs.Op.{Op, apply_all, are_touching}
 use Rattle.world_model.specs.Change.{object_after_all}
 use Rattle.world_model.specs.World.{Commit, ops_of, before, stamps_ascend, newest_touch, greatest}
 use Rattle.world_model.proofs.Objects.{object_at-apply_all, object_after_all-append, untouched}
 use Rattle.world_model.proofs.Folds.{both_true, and_left_true, and_right_true}
 use Rattle.front_core.specs.declared.version.Version.{Version}
-use Rattle.front_core.specs.Versions.{newest_stamp, newest_object, object_below}
+use Rattle.front_core.specs.Versions.{newest_stamp, newest_object}
 use Rattle.front_core.specs.Keeps.{versions_from}
 
 -- the versions that commits make of an object

@@ -3,13 +3,11 @@ use Rattle.std.specs.Prelude.{ℕ, List, Option, Some, None, Bool, ◌≡◌, na
 use Rattle.graph_value.specs.declared.value.Value.{Value}
 use Rattle.graph_value.specs.declared.id.VertexId.{VertexId}
 use Rattle.graph_value.specs.declared.id.Oid.TheVariants.{Vertex}
-use Rattle.graph_record.specs.declared.object.Object.{Object}
 use Rattle.graph_record.specs.Graph.{is_dead}
 use Rattle.txn_manager.specs.declared.running.Running.{Running}
 use Rattle.txn_manager.specs.declared.rivals.Rival.{Rival}
 use Rattle.txn_manager.specs.RunningList.{start_of}
 use Rattle.txn_manager.specs.Conflict.{rival_of}
-use Rattle.world_model.specs.declared.answer.Refused.{Refused}
 use Rattle.world_model.specs.declared.answer.Refused.TheVariants.{Missing, Conflict}
 use Rattle.world_model.specs.Op.{property_of, is_value}
 use Rattle.front_core.specs.declared.version.Draft.{Draft}

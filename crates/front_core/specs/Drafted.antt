@@ -1,9 +1,8 @@
 -- What a write leaves of the core: one row has a draft of the caller, and the caller's list has its vertex.
-use Rattle.std.specs.Prelude.{◌≡◌, ℕ, ◌+◌, Option, Some, ◌||◌, ◌&&◌, length, nat_eq, if◌then◌else◌}
+use Rattle.std.specs.Prelude.{◌≡◌, ℕ, ◌+◌, Some, ◌||◌, ◌&&◌, length, nat_eq, if◌then◌else◌}
 use Rattle.std.specs.List.{list_any}
 use Rattle.graph_value.specs.declared.id.Oid.TheVariants.{Vertex}
 use Rattle.graph_record.specs.declared.object.Object.{Object}
-use Rattle.front_core.specs.declared.version.Draft.{Draft}
 use Rattle.front_core.specs.Versions.{Versions}
 use Rattle.front_core.specs.Writes.{vertices_of}
 use Rattle.front_core.specs.Keeps.{Kept, row_at}

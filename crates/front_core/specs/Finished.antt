@@ -1,6 +1,5 @@
 -- What the end of a caller's transaction leaves of the core.
 use Rattle.std.specs.Prelude.{◌≡◌, ℕ, ◌+◌, List, [], ◌∷◌, Bool, true, false, nat_eq, if◌then◌else◌}
-use Rattle.txn_manager.specs.Transactions.{Transactions}
 use Rattle.txn_manager.specs.RunningList.{without}
 use Rattle.front_core.specs.Writes.{vertices_of}
 use Rattle.front_core.specs.Commits.{commit_listed}

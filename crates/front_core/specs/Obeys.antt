@@ -1,5 +1,4 @@
 -- One step of the core is one step of every world that it keeps.
-use Rattle.std.specs.Prelude.{◌≡◌, ℕ}
 use Rattle.world_model.specs.World.{World}
 use Rattle.world_model.specs.History.{Entry, IsAnswered, world_after}
 use Rattle.front_core.specs.Keeps.{Kept, Keeps}

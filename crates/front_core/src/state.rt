@@ -1,6 +1,7 @@
 ghost use Rattle.std.specs.Prelude.{◌≡◌, ◌≤◌, ◌^◌, ℕ, List, [], ◌∷◌, ◌++◌, IfOk, IsOk};
 ghost use Rattle.world_model.specs.World.{Start, start_world};
 ghost use Rattle.world_model.specs.History.{Entry, IsAnswered, run};
+ghost use Rattle.world_model.specs.Replies.{IsReplyTo};
 
 use crate::NoMemory;
 use crate::row::Row;
@@ -84,7 +85,11 @@ impl Core {
             IsAnswered (run (start_world s) es) (record { caller = caller; event = event; reply = result }) }
         ensures stands { (s : Start) (es : List Entry) → StandsFor s self.old es →
             StandsFor s self.new (es ++ record { caller = caller; event = event; reply = result } ∷ []) }
+        // A version is answered to a read alone, and is of the kind that the read named.
+        ensures fits { IsReplyTo event result }
     {
+        // What the core keeps is that of some world, which the last clause rests on.
+        let _ = &self.first;
         match event {
             Event::Begin => self.begin(caller),
             Event::Read { x, when } => self.read(alloc, caller, x, when),

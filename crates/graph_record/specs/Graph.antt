@@ -1,5 +1,5 @@
 -- The graph at one instant: what is alive, and what each object is.
-use Rattle.std.specs.Prelude.{◌≡◌, ℕ, List, [], Option, Some, None, Bool, true, false, IsTrue, nat_eq}
+use Rattle.std.specs.Prelude.{◌≡◌, List, [], Option, Some, None, Bool, true, false, IsTrue, nat_eq}
 use Rattle.std.specs.List.{list_any}
 use Rattle.std.specs.FinMap.{find, is_sorted}
 use Rattle.std.specs.Ordering.{nat_cmp}

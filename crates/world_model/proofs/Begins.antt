@@ -1,17 +1,17 @@
 -- A begin leaves a world in order.
-use Rattle.std.proofs.Common.{◌≡◌, ◌≢◌, ℕ, ◌+◌, ◌<◌, ◌≤◌, List, [], ◌∷◌, ◌++◌, Option, Some, None, Bool, true, false, not, ◌&&◌, ◌||◌, cond, refl, sym, ap, subst, ◌∙◌, ◌⊎◌, inl, inr, arith, map}
-use Rattle.std.specs.Prelude.{nat_eq, nat_lt, nat_le}
-use Rattle.std.specs.List.{list_any, list_all}
+use Rattle.std.proofs.Common.{◌≡◌, ℕ, ◌+◌, List, [], ◌∷◌, ◌++◌, Option, Some, None, Bool, true, false, cond, refl, sym, subst, ◌∙◌, ◌⊎◌, inl, inr}
+use Rattle.std.specs.Prelude.{nat_eq}
+use Rattle.std.specs.List.{list_any}
 use Rattle.std.proofs.lemmas.Bool.{false≢true}
 use Rattle.graph_value.specs.declared.id.Oid.{Oid}
 use Rattle.txn_manager.specs.declared.running.Running.{Running}
-use Rattle.txn_manager.specs.Transactions.{Transactions, IsReady, begin_refusal}
+use Rattle.txn_manager.specs.Transactions.{IsReady, begin_refusal}
 use Rattle.txn_manager.proofs.TransactionsLemmas.{IsReady-begun, may_begin}
-use Rattle.world_model.specs.Op.{Op, are_touching, are_below, are_sound}
-use Rattle.world_model.specs.World.{World, Commit, Txn, find_txn, txn_of, transactions_of, touched_after, InOrder, fold_of, before, ops_of}
+use Rattle.world_model.specs.Op.{are_touching, are_below, are_sound}
+use Rattle.world_model.specs.World.{World, Txn, find_txn, transactions_of, InOrder, fold_of, before}
 use Rattle.world_model.specs.Step.{or_else, begun_world}
 use Rattle.world_model.proofs.Txns.{find_txn-append}
-use Rattle.world_model.proofs.Lists.{map-one, bare, none_at_clock, stamped-more}
+use Rattle.world_model.proofs.Lists.{map-one, none_at_clock, stamped-more}
 
 -- the transaction that begins has no writes
 abbrev pub fresh : World → ℕ → Txn

@@ -1,5 +1,5 @@
 -- Sound writes keep a graph coherent.
-use Rattle.std.proofs.Common.{◌≡◌, ℕ, List, [], ◌∷◌, ◌++◌, Option, Some, None, Bool, true, false, not, ◌&&◌, ◌||◌, cond, refl, sym, ap, subst, ◌∙◌, arith}
+use Rattle.std.proofs.Common.{◌≡◌, ℕ, List, [], ◌∷◌, Option, Some, None, Bool, true, false, ◌&&◌, ◌||◌, cond, refl, sym, ap, subst, ◌∙◌}
 use Rattle.std.specs.Prelude.{nat_eq, IsTrue}
 use Rattle.std.specs.FinMap.{find, put, is_sorted}
 use Rattle.std.specs.FinMap.Entries.{is_sorted-put}
@@ -18,7 +18,7 @@ use Rattle.graph_record.specs.declared.object.Object.TheVariants as object
 use Rattle.graph_record.specs.Record.{empty_vertex}
 use Rattle.graph_record.specs.Graph.{Graph, empty_graph, vertex_cmp, edge_cmp, object_at, is_dead, has_out, has_in, comes_from, goes_to, IsCoherent}
 use Rattle.world_model.specs.Op.{Op, create_vertex, set_vertex_property, set_edge_property, apply, apply_all, is_touched, is_possible, changes, are_sound, set_found_vertex, set_found_edge}
-use Rattle.world_model.specs.Change.{changed, object_after, with_property}
+use Rattle.world_model.specs.Change.{changed, with_property}
 use Rattle.world_model.proofs.Objects.{object_at-apply, vertices_total, edges_total, same_vertex, or_false}
 use Rattle.world_model.proofs.Folds.{and_left_true, and_right_true}
 

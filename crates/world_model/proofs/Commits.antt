@@ -1,18 +1,16 @@
 -- A commit leaves a world in order.
-use Rattle.std.proofs.Common.{◌≡◌, ◌≢◌, ℕ, ◌+◌, ◌<◌, ◌≤◌, List, [], ◌∷◌, ◌++◌, Option, Some, None, Bool, true, false, not, ◌&&◌, ◌||◌, cond, refl, sym, ap, subst, ◌∙◌, ◌⊎◌, inl, inr, arith, map}
+use Rattle.std.proofs.Common.{◌≡◌, ◌≢◌, ℕ, ◌+◌, ◌<◌, ◌≤◌, List, [], ◌∷◌, ◌++◌, Some, None, Bool, true, false, ◌&&◌, cond, refl, sym, ap, ◌∙◌, arith}
 use Rattle.std.specs.Prelude.{nat_eq, nat_lt, nat_le}
-use Rattle.std.specs.List.{list_any, list_all}
 use Rattle.std.proofs.lemmas.Bool.{false≢true}
 use Rattle.std.proofs.lemmas.Bool.Decides.{nat_tests}
 use Rattle.graph_value.specs.declared.id.Oid.{Oid}
-use Rattle.graph_record.specs.Graph.{Graph, empty_graph}
-use Rattle.txn_manager.specs.Transactions.{Transactions, IsReady}
-use Rattle.world_model.specs.Op.{Op, apply_all, are_touching, are_below, are_sound}
-use Rattle.world_model.specs.World.{World, Commit, Txn, find_txn, txn_of, transactions_of, touched_after, InOrder, fold_of, before, ops_of}
-use Rattle.world_model.specs.Step.{without, committed, Outcome}
+use Rattle.graph_record.specs.Graph.{empty_graph}
+use Rattle.world_model.specs.Op.{Op, are_touching, are_below, are_sound}
+use Rattle.world_model.specs.World.{World, Commit, Txn, find_txn, txn_of, touched_after, InOrder, fold_of, before, ops_of}
+use Rattle.world_model.specs.Step.{without}
 use Rattle.world_model.proofs.Txns.{find_txn-without}
 use Rattle.world_model.proofs.Folds.{same_sound, views_agree, are_sound-append, are_below-append, ops_of-one, before-one, both_true}
-use Rattle.world_model.proofs.Lists.{ready_left, stamped-more, list_all-one, list_any-one, ascend-one, started_below, map-without, bare}
+use Rattle.world_model.proofs.Lists.{ready_left, stamped-more, list_all-one, list_any-one, ascend-one, started_below}
 
 -- what is found afterwards was there, and is another caller's
 pub left_found : (c : ℕ) (ps : List Txn) (d : ℕ) (q : Txn) → find_txn (without c ps) d ≡ Some q → (nat_eq c d ≡ false) × (find_txn ps d ≡ Some q)

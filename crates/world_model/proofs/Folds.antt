@@ -1,7 +1,7 @@
 -- Folds of commits: what depends on the touched objects alone, and which commits an object sees.
-use Rattle.std.proofs.Common.{◌≡◌, ℕ, ◌+◌, ◌<◌, ◌≤◌, List, [], ◌∷◌, ◌++◌, Bool, true, false, not, ◌&&◌, ◌||◌, cond, refl, sym, ap, subst, ◌∙◌, arith, rules, append_assoc, filter}
-use Rattle.std.specs.Prelude.{nat_eq, nat_lt, nat_le}
-use Rattle.std.specs.List.{list_any, list_all, flat_map}
+use Rattle.std.proofs.Common.{◌≡◌, ℕ, ◌≤◌, List, [], ◌∷◌, ◌++◌, Bool, true, false, not, ◌&&◌, ◌||◌, cond, refl, sym, ap, ◌∙◌, arith, append_assoc}
+use Rattle.std.specs.Prelude.{nat_eq, nat_lt}
+use Rattle.std.specs.List.{list_any, list_all}
 use Rattle.std.proofs.lemmas.Bool.{false≢true}
 use Rattle.std.proofs.lemmas.Bool.Decides.{nat_tests}
 use Rattle.graph_value.specs.declared.id.Oid.{Oid}
@@ -12,7 +12,7 @@ use Rattle.graph_record.specs.Graph.{Graph, empty_graph, object_at, is_dead}
 use Rattle.world_model.specs.Op.{Op, create_vertex, set_vertex_property, set_edge_property, apply, apply_all, is_touched, are_touching, is_possible, changes, are_sound, are_below, is_given, touches, same_oid, is_value, property_of}
 use Rattle.world_model.specs.Change.{object_after, object_after_all}
 use Rattle.world_model.specs.World.{Commit, ops_of, before, touched_after, fold_of}
-use Rattle.world_model.proofs.Objects.{object_at-apply, object_at-apply_all, apply_all-append, untouched, or_left_false, or_right_false, object_after_all-append, are_touching-append}
+use Rattle.world_model.proofs.Objects.{object_at-apply, object_at-apply_all, untouched, or_left_false, or_right_false, object_after_all-append}
 
 pub nat_eq_refl : (n : ℕ) → nat_eq n n ≡ true
 nat_eq_refl n = grind (arith, nat_tests)

@@ -1,19 +1,18 @@
 -- A history and one more entry.
-use Rattle.std.proofs.Common.{◌≡◌, ◌≢◌, ℕ, ◌+◌, ◌<◌, ◌≤◌, ◌^◌, List, [], ◌∷◌, ◌++◌, Option, Some, None, Bool, true, false, not, ◌&&◌, ◌||◌, cond, refl, sym, ap, subst, ◌∙◌, ◌⊎◌, inl, inr, arith, map}
-use Rattle.std.specs.Prelude.{nat_eq, nat_lt, nat_le}
+use Rattle.std.proofs.Common.{◌≡◌, ℕ, List, [], ◌∷◌, ◌++◌, Option, Some, None, Bool, true, false, cond, refl, sym, ap, ◌∙◌, inl, inr, arith, map}
+use Rattle.std.specs.Prelude.{nat_lt}
 use Rattle.std.proofs.lemmas.Bool.{false≢true}
 use Rattle.txn_manager.specs.declared.refusals.BeginRefused.{BeginRefused}
-use Rattle.txn_manager.specs.Transactions.{IsReady, begin_refusal}
+use Rattle.txn_manager.specs.Transactions.{begin_refusal}
 use Rattle.world_model.specs.declared.event.Ask.{Ask}
 use Rattle.world_model.specs.declared.event.Event.{Event}
 use Rattle.world_model.specs.declared.event.Event.TheVariants as event
 use Rattle.world_model.specs.declared.answer.Answer.{Answer}
-use Rattle.world_model.specs.declared.answer.Answer.TheVariants as answer
 use Rattle.world_model.specs.declared.answer.Refused.{Refused}
 use Rattle.world_model.specs.Op.{Op, changes, are_below, are_sound}
 use Rattle.world_model.specs.World.{World, Start, start_world, InOrder, Commit, Txn, stamps_ascend, rises, txn_of, find_txn, transactions_of, view_of, ops_of}
-use Rattle.world_model.specs.Step.{Outcome, step, begin_step, read_step, write_step, allowed_write_step, effect_step, commit_step, committed, write_refusal, op_of}
-use Rattle.world_model.specs.History.{Entry, run, AreAnswered, IsAnswered, world_after, is_no_memory, no_memory, may_want, IsLegal, IsStart, stamp_given, stamp_of_txn, stamp_of_writes, stamps_given}
+use Rattle.world_model.specs.Step.{step, begin_step, read_step, write_step, allowed_write_step, effect_step, commit_step, committed, write_refusal, op_of}
+use Rattle.world_model.specs.History.{Entry, run, AreAnswered, IsAnswered, world_after, is_no_memory, IsLegal, IsStart, stamp_given, stamp_of_txn, stamp_of_writes, stamps_given}
 use Rattle.std.specs.List.{list_all}
 use Rattle.world_model.proofs.Folds.{both_true, and_left_true, and_right_true}
 use Rattle.world_model.proofs.Order.{step_keeps_order}

@@ -8,3 +8,4 @@ pub mod Commits
 pub mod Coherence
 pub mod Order
 pub mod Histories
+pub mod Replies

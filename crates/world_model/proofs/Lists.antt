@@ -1,17 +1,17 @@
 -- The transactions and commits as the clock's own list sees them, and facts about every timestamp.
-use Rattle.std.proofs.Common.{◌≡◌, ◌≢◌, ℕ, suc, ◌+◌, ◌<◌, ◌≤◌, List, [], ◌∷◌, ◌++◌, Option, Some, None, Bool, true, false, not, ◌&&◌, ◌||◌, ◌==◌, cond, length, refl, sym, ap, subst, ◌∙◌, ◌⊎◌, inl, inr, arith, rules, filter, map, get_or}
+use Rattle.std.proofs.Common.{◌≡◌, ℕ, suc, ◌+◌, ◌<◌, ◌≤◌, List, [], ◌∷◌, ◌++◌, Option, Some, None, Bool, true, false, not, ◌&&◌, ◌||◌, ◌==◌, cond, length, refl, sym, ap, subst, ◌∙◌, arith, map}
 use Rattle.std.specs.Prelude.{nat_eq, nat_lt, nat_le, is_some, IsSome, All}
 use Rattle.std.specs.List.{list_any, list_all, position, remove}
 use Rattle.std.proofs.lemmas.Bool.{false≢true}
 use Rattle.std.proofs.lemmas.Bool.Decides.{nat_tests}
 use Rattle.txn_manager.specs.declared.running.Running.{Running}
 use Rattle.txn_manager.specs.RunningList as list
-use Rattle.txn_manager.specs.Transactions.{Transactions, IsReady, begun}
+use Rattle.txn_manager.specs.Transactions.{IsReady}
 use Rattle.txn_manager.proofs.TransactionsLemmas.{IsReady-left}
 use Rattle.txn_manager.proofs.RunningListLemmas.{remove-place, length-remove_place, place_from_start}
 use Rattle.world_model.specs.Op.{Op}
-use Rattle.world_model.specs.World.{World, Commit, Txn, find_txn, transactions_of, stamps_ascend, touched_after}
-use Rattle.world_model.specs.Step.{with_op, without, or_else, begun_world}
+use Rattle.world_model.specs.World.{World, Commit, Txn, find_txn, transactions_of, stamps_ascend}
+use Rattle.world_model.specs.Step.{with_op, without}
 use Rattle.world_model.proofs.Folds.{both_true, both_false, and_left_true, and_right_true}
 
 -- a transaction without its writes

@@ -1,10 +1,9 @@
 -- A write seen from one object: the graph after it has, at each object, what the write leaves of that object.
-use Rattle.std.proofs.Common.{◌≡◌, ℕ, ◌<◌, ◌≤◌, List, [], ◌∷◌, ◌++◌, Option, Some, None, Bool, true, false, not, ◌&&◌, ◌||◌, cond, eqb, ltb, refl, sym, ap, subst, ◌∙◌, arith, rules}
-use Rattle.std.specs.Prelude.{nat_eq, nat_lt}
-use Rattle.std.specs.List.{list_any, list_all}
+use Rattle.std.proofs.Common.{◌≡◌, ℕ, List, [], ◌∷◌, ◌++◌, Option, Some, None, Bool, true, false, ◌||◌, cond, refl, sym, ap, ◌∙◌, arith, rules}
+use Rattle.std.specs.Prelude.{nat_eq}
 use Rattle.std.specs.FinMap.{find, put}
 use Rattle.std.specs.FinMap.Entries.{find-put}
-use Rattle.std.specs.Ordering.{nat_cmp, is_eq, eq_by_cmp}
+use Rattle.std.specs.Ordering.{nat_cmp, is_eq}
 use Rattle.std.specs.Cmp.{nat_cmp_total, IsTotalOrder}
 use Rattle.std.proofs.lemmas.Cmp.{on_total}
 use Rattle.std.proofs.lemmas.Bool.{false≢true}
@@ -19,8 +18,8 @@ use Rattle.graph_record.specs.declared.object.EdgeRecord.{EdgeRecord}
 use Rattle.graph_record.specs.declared.object.Object.{Object}
 use Rattle.graph_record.specs.declared.object.Object.TheVariants as object
 use Rattle.graph_record.specs.Record.{empty_vertex}
-use Rattle.graph_record.specs.Graph.{Graph, empty_graph, vertex_cmp, edge_cmp, vertex_object, edge_object, object_at, is_dead}
-use Rattle.world_model.specs.Op.{Op, create_vertex, set_vertex_property, set_edge_property, apply, apply_all, touches, is_touched, are_touching, same_oid, set_found_vertex, set_found_edge, is_possible, changes, are_sound}
+use Rattle.graph_record.specs.Graph.{Graph, vertex_cmp, edge_cmp, vertex_object, edge_object, object_at}
+use Rattle.world_model.specs.Op.{Op, create_vertex, set_vertex_property, set_edge_property, apply, apply_all, is_touched, are_touching, set_found_vertex, set_found_edge}
 use Rattle.world_model.specs.Change.{changed, object_after, object_after_all, with_property}
 
 pub vertices_total : IsTotalOrder vertex_cmp

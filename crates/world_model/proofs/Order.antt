@@ -1,19 +1,19 @@
 -- Every step from a world in order leaves one in order.
-use Rattle.std.proofs.Common.{◌≡◌, ◌≢◌, ℕ, ◌+◌, ◌<◌, ◌≤◌, List, [], ◌∷◌, ◌++◌, Option, Some, None, Bool, true, false, not, ◌&&◌, ◌||◌, cond, refl, sym, ap, subst, ◌∙◌, arith, filter}
-use Rattle.std.specs.Prelude.{nat_eq, nat_lt, nat_le}
-use Rattle.std.specs.List.{list_any, list_all}
+use Rattle.std.proofs.Common.{◌≡◌, ℕ, ◌+◌, List, [], ◌∷◌, ◌++◌, Option, Some, None, Bool, true, false, cond, refl, sym, ap, subst, ◌∙◌, arith, filter}
+use Rattle.std.specs.Prelude.{nat_lt, nat_le}
+use Rattle.std.specs.List.{list_all}
 use Rattle.std.proofs.lemmas.Bool.{false≢true}
 use Rattle.std.proofs.lemmas.Bool.Decides.{nat_tests}
 use Rattle.graph_value.specs.declared.id.Oid.{Oid}
-use Rattle.graph_record.specs.Graph.{Graph, empty_graph, IsCoherent}
+use Rattle.graph_record.specs.Graph.{empty_graph, IsCoherent}
 use Rattle.txn_manager.specs.declared.refusals.BeginRefused.{BeginRefused}
 use Rattle.txn_manager.specs.Transactions.{begin_refusal}
 use Rattle.world_model.specs.declared.event.Ask.{Ask}
 use Rattle.world_model.specs.declared.event.Event.{Event}
 use Rattle.world_model.specs.declared.event.Event.TheVariants as event
 use Rattle.world_model.specs.declared.answer.Refused.{Refused}
-use Rattle.world_model.specs.Op.{Op, apply_all, are_sound, changes}
-use Rattle.world_model.specs.World.{World, Commit, Txn, find_txn, txn_of, transactions_of, InOrder, fold_of, before, ops_of, view_of, graph_at, stamps_ascend}
+use Rattle.world_model.specs.Op.{Op, are_sound, changes}
+use Rattle.world_model.specs.World.{World, Commit, Txn, txn_of, transactions_of, InOrder, fold_of, before, ops_of, view_of, graph_at, stamps_ascend}
 use Rattle.world_model.specs.Step.{Outcome, step, begin_step, read_step, write_step, commit_step, allowed_write_step, effect_step, committed, write_refusal, op_of, written_world}
 use Rattle.world_model.proofs.Begins.{begin_keeps_order}
 use Rattle.world_model.proofs.Writes.{write_keeps_order}

@@ -1,8 +1,7 @@
 -- The open transactions: what looking one up answers after each change of the list.
-use Rattle.std.proofs.Common.{◌≡◌, ◌≢◌, ℕ, ◌+◌, ◌<◌, ◌≤◌, List, [], ◌∷◌, ◌++◌, Option, Some, None, Bool, true, false, not, ◌&&◌, ◌||◌, cond, max, refl, sym, ap, subst, ◌∙◌, arith, rules, filter, map, fold}
-use Rattle.std.specs.Prelude.{nat_eq, nat_lt, nat_le, option_map}
-use Rattle.std.specs.List.{list_any, list_all}
-use Rattle.std.proofs.lemmas.Bool.{false≢true}
+use Rattle.std.proofs.Common.{◌≡◌, ℕ, List, [], ◌∷◌, ◌++◌, Option, Some, None, Bool, true, false, not, ◌&&◌, ◌||◌, cond, max, refl, sym, ap, subst, ◌∙◌, arith, filter, map, fold}
+use Rattle.std.specs.Prelude.{nat_eq, nat_lt, option_map}
+use Rattle.std.specs.List.{list_any}
 use Rattle.std.proofs.lemmas.Bool.Decides.{nat_tests}
 use Rattle.graph_value.specs.declared.id.Oid.{Oid}
 use Rattle.txn_manager.specs.Conflict.{rival_of, unseen_commit}

@@ -1,30 +1,26 @@
 -- A write that is allowed and changes the graph leaves a world in order.
-use Rattle.std.proofs.Common.{◌≡◌, ◌≢◌, ℕ, ◌+◌, ◌^◌, ◌<◌, ◌≤◌, List, [], ◌∷◌, ◌++◌, Option, Some, None, Bool, true, false, not, ◌&&◌, ◌||◌, cond, refl, sym, ap, subst, ◌∙◌, ◌⊎◌, inl, inr, arith, map}
+use Rattle.std.proofs.Common.{◌≡◌, ◌≢◌, ℕ, ◌+◌, ◌^◌, ◌≤◌, List, [], ◌∷◌, ◌++◌, Option, Some, None, Bool, true, false, not, ◌&&◌, ◌||◌, cond, refl, sym, ap, subst, ◌∙◌, ◌⊎◌, inl, inr, arith}
 use Rattle.std.specs.Prelude.{nat_eq, nat_lt, nat_le, option_map}
-use Rattle.std.specs.List.{list_any, list_all}
+use Rattle.std.specs.List.{list_any}
 use Rattle.std.proofs.lemmas.Bool.{false≢true}
 use Rattle.std.proofs.lemmas.Bool.Decides.{nat_tests}
-use Rattle.graph_value.specs.declared.id.VertexId.{VertexId}
-use Rattle.graph_value.specs.declared.id.EdgeId.{EdgeId}
 use Rattle.graph_value.specs.declared.id.Oid.{Oid}
 use Rattle.graph_value.specs.declared.id.Oid.TheVariants.{Vertex, Edge}
-use Rattle.graph_record.specs.declared.object.Object.{Object}
 use Rattle.graph_record.specs.declared.object.Object.TheVariants as object
 use Rattle.graph_record.specs.Graph.{Graph, empty_graph, object_at, is_dead}
 use Rattle.txn_manager.specs.declared.running.Running.{Running}
 use Rattle.txn_manager.specs.declared.rivals.Rival.{Rival}
-use Rattle.txn_manager.specs.Transactions.{Transactions, IsReady}
+use Rattle.txn_manager.specs.Transactions.{IsReady}
 use Rattle.world_model.specs.declared.event.Ask.{Ask}
 use Rattle.world_model.specs.declared.event.Ask.TheVariants.{CreateVertex, SetVertexProp, SetEdgeProp}
-use Rattle.world_model.specs.declared.answer.Refused.{Refused}
-use Rattle.world_model.specs.declared.answer.Refused.TheVariants.{Missing, Conflict, IdEnd}
-use Rattle.world_model.specs.Op.{Op, create_vertex, set_vertex_property, set_edge_property, apply_all, touches, is_touched, same_oid, are_touching, are_below, are_sound, is_given, is_possible, changes}
-use Rattle.world_model.specs.World.{World, Commit, Txn, find_txn, txn_of, transactions_of, touched_after, InOrder, fold_of, before, ops_of, view_of, rival_at, other_writer, newest_touch}
+use Rattle.world_model.specs.declared.answer.Refused.TheVariants.{Missing, IdEnd}
+use Rattle.world_model.specs.Op.{Op, create_vertex, set_vertex_property, set_edge_property, touches, is_touched, same_oid, are_touching, are_below, are_sound, is_given, is_possible, changes}
+use Rattle.world_model.specs.World.{World, Txn, find_txn, txn_of, touched_after, InOrder, fold_of, before, ops_of, view_of, rival_at, other_writer, newest_touch}
 use Rattle.world_model.specs.Step.{with_op, or_else, op_of, named, missing, conflict, conflict_at, id_end, write_refusal, written_world, vertices_made}
 use Rattle.world_model.proofs.Objects.{or_false, apply_all-append, are_touching-append, same_vertex, same_edge}
 use Rattle.world_model.proofs.Txns.{find_txn-with_op, with_write, nobody_else, quiet_after, no_rival, found_caller}
-use Rattle.world_model.proofs.Folds.{are_sound-append, are_below-append, are_below-more, before_below, both_true, both_false, and_left_true, and_right_true, beyond_dead, nat_eq_refl}
-use Rattle.world_model.proofs.Lists.{map-with_op, bare}
+use Rattle.world_model.proofs.Folds.{are_sound-append, are_below-append, are_below-more, before_below, both_true, beyond_dead}
+use Rattle.world_model.proofs.Lists.{map-with_op}
 
 -- the one object that a write touches
 abbrev pub target : Op → Oid

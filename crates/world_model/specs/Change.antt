@@ -1,5 +1,5 @@
 -- What a write does to one object: an object's own account of its life.
-use Rattle.std.specs.Prelude.{ℕ, List, [], ◌∷◌, Bool, if◌then◌else◌}
+use Rattle.std.specs.Prelude.{ℕ, List, [], ◌∷◌, if◌then◌else◌}
 use Rattle.std.specs.FinMap.{put}
 use Rattle.graph_value.specs.Name.{name_cmp}
 use Rattle.graph_value.specs.declared.value.Value.{Value}

@@ -8,7 +8,7 @@ use Rattle.world_model.specs.declared.answer.Refused.{Refused}
 use Rattle.world_model.specs.declared.answer.Refused.TheVariants as refused
 use Rattle.world_model.specs.Op.{Op}
 use Rattle.world_model.specs.World.{World, Start, Txn, start_world, txn_of}
-use Rattle.world_model.specs.Step.{Outcome, step}
+use Rattle.world_model.specs.Step.{step}
 
 -- one event of one caller, and its answer
 pub record Entry : Type 0 where

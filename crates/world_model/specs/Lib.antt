@@ -3,3 +3,4 @@ pub mod World
 pub mod Step
 pub mod History
 pub mod Change
+pub mod Replies

@@ -1,5 +1,5 @@
 -- Writes: what each does to a graph, which objects it touches, and where it may stand.
-use Rattle.std.specs.Prelude.{◌≡◌, ℕ, ◌<◌, List, [], ◌∷◌, Option, Some, None, Bool, true, false, not, ◌&&◌, nat_eq, nat_lt, if◌then◌else◌}
+use Rattle.std.specs.Prelude.{ℕ, List, [], ◌∷◌, Option, Some, None, Bool, true, false, not, ◌&&◌, nat_eq, nat_lt}
 use Rattle.std.specs.List.{list_any, list_all}
 use Rattle.std.specs.FinMap.{find, put}
 use Rattle.graph_value.specs.Name.{name_cmp}

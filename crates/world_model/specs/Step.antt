@@ -1,6 +1,5 @@
 -- One step of the store: what it answers to a caller's event, and the world afterwards, where memory isn't wanting.
-use Rattle.std.specs.Prelude.{ℕ, ◌+◌, ◌^◌, List, [], ◌∷◌, ◌++◌, Option, Some, None, Bool, nat_eq, nat_le, not, map, filter, is_some, if◌then◌else◌}
-use Rattle.graph_value.specs.declared.id.VertexId.{VertexId}
+use Rattle.std.specs.Prelude.{ℕ, ◌+◌, ◌^◌, List, [], ◌∷◌, ◌++◌, Option, Some, None, Bool, nat_eq, nat_le, not, filter, if◌then◌else◌}
 use Rattle.graph_value.specs.declared.id.Oid.{Oid}
 use Rattle.graph_value.specs.declared.id.Oid.TheVariants as oid
 use Rattle.graph_record.specs.Graph.{Graph, object_at, is_dead}
@@ -19,7 +18,7 @@ use Rattle.world_model.specs.declared.answer.Wrote.TheVariants as wrote
 use Rattle.world_model.specs.declared.answer.Refused.{Refused}
 use Rattle.world_model.specs.declared.answer.Refused.TheVariants.{NoTxn, AlreadyOpen, Missing, Conflict, ClockEnd, TooMany, IdEnd, NoMemory}
 use Rattle.world_model.specs.Op.{Op, create_vertex, set_vertex_property, set_edge_property, touches, changes}
-use Rattle.world_model.specs.World.{World, Txn, Commit, view_of, txn_of, rival_at, transactions_of}
+use Rattle.world_model.specs.World.{World, Txn, view_of, txn_of, rival_at, transactions_of}
 
 -- an answer, and the world after it
 pub record Outcome : Type 0 where

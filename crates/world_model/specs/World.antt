@@ -1,8 +1,7 @@
 -- The world: the clock, the id counters, the commits in order of time, and the open transactions with their writes.
-use Rattle.std.specs.Prelude.{◌≡◌, ◌≢◌, ℕ, ◌+◌, ◌<◌, ◌≤◌, ◌^◌, List, [], ◌∷◌, ◌++◌, Option, Some, None, Bool, true, false, not, ◌&&◌, map, filter, nat_eq, nat_lt, nat_le, max, option_map, fold, if◌then◌else◌}
+use Rattle.std.specs.Prelude.{◌≡◌, ◌≢◌, ℕ, ◌≤◌, ◌^◌, List, [], ◌∷◌, Option, Some, None, Bool, true, false, not, ◌&&◌, map, filter, nat_eq, nat_lt, nat_le, max, option_map, fold, if◌then◌else◌}
 use Rattle.std.specs.List.{list_any, list_all, flat_map}
 use Rattle.graph_value.specs.declared.id.Oid.{Oid}
-use Rattle.graph_value.specs.declared.id.VertexId.{VertexId}
 use Rattle.graph_record.specs.Graph.{Graph, empty_graph}
 use Rattle.txn_manager.specs.declared.rivals.Rival.{Rival}
 use Rattle.txn_manager.specs.Transactions.{Transactions, IsReady}

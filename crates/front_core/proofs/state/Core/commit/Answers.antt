@@ -1,5 +1,5 @@
 -- A commit is the world's commit.
-use Rattle.std.proofs.Common.{sym, subst, ap, ◌∙◌, ◌≡◌, ℕ, List, Option, Some, None, Bool, true, false, refl, cond, not}
+use Rattle.std.proofs.Common.{sym, subst, ap, ◌∙◌, ℕ, List}
 use Rattle.std.specs.Prelude.{is_some, IsTrue, nat_le, nat_lt, length}
 use Rattle.std.specs.List.{list_all}
 use Rattle.std.proofs.Common.{◌&&◌, ◌-◌}

@@ -1,5 +1,5 @@
 -- The draft that is set is the world's write.
-use Rattle.std.proofs.Common.{sym, subst, ap, ◌∙◌, ◌≡◌, ℕ, ◌+◌, ◌<◌, Some, length, set}
+use Rattle.std.proofs.Common.{sym, subst, ap, ◌∙◌, ◌≡◌, ◌+◌, ◌<◌, Some, length, set}
 use Rattle.graph_value.specs.declared.id.Oid.TheVariants.{Vertex}
 use Rattle.txn_manager.specs.RunningList.{start_of}
 use Rattle.world_model.specs.declared.event.Ask.TheVariants.{SetVertexProp}

@@ -1,5 +1,5 @@
 -- Setting a property is the world's write.
-use Rattle.std.proofs.Common.{sym, ap, ◌∙◌}
+use Rattle.std.proofs.Common.{sym, ap}
 use Rattle.graph_value.specs.declared.id.Oid.TheVariants.{Vertex}
 use Rattle.world_model.specs.declared.answer.Refused.TheVariants.{Missing}
 use Rattle.front_core.specs.Decision.{set_decision}

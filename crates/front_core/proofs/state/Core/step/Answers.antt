@@ -2,9 +2,9 @@
 use Rattle.std.proofs.Common.{ℕ, sym, subst}
 use Rattle.world_model.specs.declared.event.Event.{Event}
 use Rattle.world_model.specs.declared.answer.Answer.{Answer}
-use Rattle.front_core.specs.Keeps.{Kept}
+use Rattle.front_core.specs.Keeps.{Kept, Keeps}
 use Rattle.front_core.specs.Obeys.{ObeysAll}
-use Rattle.front_core.proofs.Starts.{stands_for}
+use Rattle.front_core.proofs.Starts.{stands_for, fits_event}
 use Rattle.front_core.proofs.state.Core.step.Goals as goal
 
 abbrev on : (k k' : Kept) (caller : ℕ) (reply : Answer) → Event → Type 0
@@ -25,3 +25,8 @@ returns-in-Write-clause-stands c = λ s es st.
 pub returns-in-Commit-clause-stands : goal.returns-in-Commit-clause-stands
 returns-in-Commit-clause-stands c = λ s es st.
     stands_for s c.args.self.now c.commit.new.self es _ (subst (on c.args.self.now c.commit.new.self c.args.caller c.commit.result) (sym c.in-Commit.is) c.commit.ensures) st
+
+pub returns-in-Read-clause-fits : goal.returns-in-Read-clause-fits
+returns-in-Read-clause-fits c =
+    fits_event c.args.self.now c.args.self.now c.args.caller c.args.event c.read.result (c.self.invariant.0, subst (λ (k : Kept). Keeps k c.self.invariant.0) c.self.view_is c.self.invariant.1)
+      (subst (on c.args.self.now c.args.self.now c.args.caller c.read.result) (sym c.in-Read.is) c.read.ensures)

@@ -1,0 +1,70 @@
+-- Every answer that a world allows belongs to its event.
+use Rattle.std.proofs.Common.{ℕ, List, [], ◌∷◌, Option, Some, None, Bool, true, false, sym, subst, inl, inr}
+use Rattle.std.specs.FinMap.{find}
+use Rattle.graph_value.specs.declared.id.Oid.{Oid}
+use Rattle.graph_value.specs.declared.id.Oid.TheVariants.{Vertex, Edge}
+use Rattle.graph_record.specs.declared.object.VertexRecord.{VertexRecord}
+use Rattle.graph_record.specs.declared.object.EdgeRecord.{EdgeRecord}
+use Rattle.graph_record.specs.Graph.{Graph, object_at, vertex_cmp, edge_cmp, vertex_object, edge_object}
+use Rattle.txn_manager.specs.declared.refusals.BeginRefused.{BeginRefused}
+use Rattle.txn_manager.specs.Transactions.{begin_refusal}
+use Rattle.world_model.specs.declared.event.Ask.{Ask}
+use Rattle.world_model.specs.declared.event.Event.{Event}
+use Rattle.world_model.specs.declared.event.Event.TheVariants as event
+use Rattle.world_model.specs.declared.answer.Answer.{Answer}
+use Rattle.world_model.specs.declared.answer.Refused.{Refused}
+use Rattle.world_model.specs.Op.{Op, changes}
+use Rattle.world_model.specs.World.{World, Txn, txn_of, transactions_of, view_of}
+use Rattle.world_model.specs.Step.{step, begin_step, read_step, write_step, allowed_write_step, effect_step, commit_step, committed, write_refusal, op_of}
+use Rattle.world_model.specs.History.{IsAnswered}
+use Rattle.world_model.specs.Replies.{IsObjectOf, IsReplyTo}
+
+object_of : (g : Graph) (x : Oid) → IsObjectOf x (object_at g x)
+object_of g (Vertex v) = by_found (find vertex_cmp v g.vertices)
+  where
+    by_found : (r : Option VertexRecord) → IsObjectOf (Vertex v) (vertex_object r)
+    by_found None = tt
+    by_found (Some r) = tt
+object_of g (Edge e) = by_found (find edge_cmp e g.edges)
+  where
+    by_found : (r : Option EdgeRecord) → IsObjectOf (Edge e) (edge_object r)
+    by_found None = tt
+    by_found (Some r) = tt
+
+begins : (w : World) (c : ℕ) (r : Option BeginRefused) → IsReplyTo event.Begin (begin_step w c r).reply
+begins w c None = tt
+begins w c (Some why) = tt
+
+reads : (w : World) (x : Oid) (p : Option Txn) → IsReplyTo (event.Read x Rattle.world_model.specs.declared.event.When.TheVariants.Own) (read_step w x p).reply
+reads w x None = tt
+reads w x (Some p) = object_of (view_of w p) x
+
+effects : (w : World) (c : ℕ) (ask : Ask) (op : Op) (b : Bool) → IsReplyTo (event.Write ask) (effect_step w c op b).reply
+effects w c ask op true = tt
+effects w c ask op false = tt
+
+allowed : (w : World) (p : Txn) (c : ℕ) (ask : Ask) (r : Option Refused) → IsReplyTo (event.Write ask) (allowed_write_step w p c ask r).reply
+allowed w p c ask None = effects w c ask (op_of w ask) (changes (op_of w ask) (view_of w p))
+allowed w p c ask (Some why) = tt
+
+writes : (w : World) (c : ℕ) (ask : Ask) (p : Option Txn) → IsReplyTo (event.Write ask) (write_step w c ask p).reply
+writes w c ask None = tt
+writes w c ask (Some p) = allowed w p c ask (write_refusal w p ask)
+
+ends : (w : World) (c start : ℕ) (ops : List Op) → IsReplyTo event.Commit (committed w c start ops).reply
+ends w c start [] = tt
+ends w c start (op ∷ ops) = tt
+
+commits : (w : World) (c : ℕ) (p : Option Txn) → IsReplyTo event.Commit (commit_step w c p).reply
+commits w c None = tt
+commits w c (Some p) = ends w c p.start p.ops
+
+step_replies : (w : World) (c : ℕ) (e : Event) → IsReplyTo e (step w c e).reply
+step_replies w c event.Begin = begins w c (begin_refusal (transactions_of w) c)
+step_replies w c (event.Read x when) = reads w x (txn_of w c)
+step_replies w c (event.Write ask) = writes w c ask (txn_of w c)
+step_replies w c event.Commit = commits w c (txn_of w c)
+
+pub answer_replies : (w : World) (c : ℕ) (e : Event) (r : Answer) → IsAnswered w (record { caller = c; event = e; reply = r }) → IsReplyTo e r
+answer_replies w c e r (inl same) = subst (IsReplyTo e) (sym same) (step_replies w c e)
+answer_replies w c e r (inr wanting) = subst (IsReplyTo e) (sym wanting.0) tt
