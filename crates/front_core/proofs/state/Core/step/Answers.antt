@@ -29,4 +29,4 @@ returns-in-Commit-clause-stands c = λ s es st.
 pub returns-in-Read-clause-fits : goal.returns-in-Read-clause-fits
 returns-in-Read-clause-fits c =
     fits_event c.args.self.now c.args.self.now c.args.caller c.args.event c.read.result (c.self.invariant.0, subst (λ (k : Kept). Keeps k c.self.invariant.0) c.self.view_is c.self.invariant.1)
-      (subst (on c.args.self.now c.args.self.now c.args.caller c.read.result) (sym c.in-Read.is) c.read.ensures)
+    (subst (on c.args.self.now c.args.self.now c.args.caller c.read.result) (sym c.in-Read.is) c.read.ensures)
