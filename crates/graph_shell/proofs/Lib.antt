@@ -3,3 +3,6 @@ mod Numbers
 mod Pushed
 mod Read
 mod Spelled
+mod Answering
+mod Turns
+mod Endings

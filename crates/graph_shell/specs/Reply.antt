@@ -6,8 +6,8 @@ use Rattle.graph_value.specs.declared.id.Oid.TheVariants as oid
 use Rattle.graph_record.specs.declared.object.Object.{Object}
 use Rattle.graph_record.specs.declared.object.Object.TheVariants.{Dead}
 use Rattle.graph_record.specs.Json.{IsOfKind, object_text}
-use Rattle.txn_manager.specs.declared.rival.Rival.{Rival}
-use Rattle.txn_manager.specs.declared.rival.Rival.TheVariants as rival
+use Rattle.txn_manager.specs.declared.rivals.Rival.{Rival}
+use Rattle.txn_manager.specs.declared.rivals.Rival.TheVariants as rival
 use Rattle.world_model.specs.declared.answer.Wrote.{Wrote}
 use Rattle.world_model.specs.declared.answer.Wrote.TheVariants as wrote
 use Rattle.world_model.specs.declared.answer.Refused.{Refused}

@@ -1,14 +1,23 @@
-//! The store as it is spoken to in lines: a request is read from a line, and the reply to it is printed.
+//! The store as it is spoken to in lines: an event list is read, and each line's reply is written.
 #![tactic(auto)]
 
+mod answer;
+mod command;
 mod reply;
 mod request;
+mod run;
 mod spelling;
 
+pub use answer::answer_line;
+pub use command::{Command, aeong_main, read_words};
 pub use reply::{push_bad_line, push_reply};
 pub use request::{Request, is_skipped, read_request};
+pub use run::run_events;
 pub use spelling::{read_is_spelling, spelling_is_read};
 use std::alloc::AllocError;
 
 /// Memory was wanting. No contract says when this answer comes.
 pub type NoMemory = AllocError;
+
+#[cfg(test)]
+mod tests;
