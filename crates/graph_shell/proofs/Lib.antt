@@ -6,3 +6,4 @@ mod Spelled
 mod Answering
 mod Turns
 mod Endings
+mod Worked
