@@ -1,41 +1,86 @@
 #!/usr/bin/env bash
-# Runs the tests of graph_shell unproved, once for each N from 1 to a given number, with the Nth allocation failing.
-# It is no part of the gate: it takes long, and what it shows has to be read.
+# Runs `aeong events` unproved on the lines of examples/first.events, once for each N of a range, with the Nth
+# allocation failing, and judges what it answered. It is no part of the gate.
 #
-#   tools/fail-alloc.sh MOST [FOLDER]
+#   tools/fail-alloc.sh FIRST LAST [STEP]
 #
-# A test that ends because memory was wanting is as it must be. Look for a test that fails by another answer: what each
-# run wrote is kept in FOLDER, as N.log. The script's status is 1 where a run faulted, hung or was not tried.
+# Each run prints a line. As it must be:
+#
+#   as without a fault          the allocation wasn't reached, or wasn't needed
+#   line L found no memory      its reply is `refused 11 no memory`, and all others are those of a run without line L
+#   status 5 behind R replies   the run ended, and these are the first of the replies
+#   status 1 and no reply       the words of the command found no memory, before the run began
+#
+# All else is WRONG: a reply that is lost, changed or given twice. The last line counts them, and the script's status is
+# 1 where there is one.
 set -uo pipefail
 
-most="${1:-}"
-if ! [[ "$most" =~ ^[1-9][0-9]*$ ]]; then
-    echo "usage: tools/fail-alloc.sh MOST [FOLDER]" >&2
+first="${1:-}" last="${2:-}" step="${3:-1}"
+for number in "$first" "$last" "$step"; do
+    if ! [[ "$number" =~ ^[1-9][0-9]*$ ]]; then
+        echo "usage: tools/fail-alloc.sh FIRST LAST [STEP]" >&2
+        exit 2
+    fi
+done
+top="$(cd "$(dirname "${BASH_SOURCE[0]}")/.." && pwd)"
+room="$(mktemp -d)"
+trap 'rm -rf "$room"' EXIT
+cd "$top/crates/aeong" || exit 2
+
+# Runs the program on the list $1 with the flags behind $2, and keeps its replies in $2.
+try() {
+    local list="$1" replies="$2"
+    shift 2
+    rt try "$@" -- events <"$list" >"$replies" 2>"$replies.log"
+}
+
+# The replies of a run without line $1 and without a fault.
+without() {
+    if [ ! -e "$room/without.$1" ]; then
+        sed "$1d" "$room/list" >"$room/list.$1"
+        try "$room/list.$1" "$room/without.$1" || return 1
+    fi
+}
+
+# What the run's replies and status are, or WRONG.
+judge() {
+    local status="$1" count line
+    count="$(wc -l <"$room/replies")"
+    if [ "$status" -eq 0 ] && cmp -s "$room/whole" "$room/replies"; then
+        echo "as without a fault"
+    elif [ "$status" -eq 1 ] && [ ! -s "$room/replies" ]; then
+        echo "status 1 and no reply"
+    elif [ "$status" -eq 5 ] && cmp -s <(head -n "$count" "$room/whole") "$room/replies"; then
+        echo "status 5 behind $count replies"
+    elif [ "$status" -eq 0 ] && [ "$(grep -c ' refused 11 no memory$' "$room/replies")" -eq 1 ]; then
+        line="$(grep -n ' refused 11 no memory$' "$room/replies" | cut -d: -f1)"
+        if without "$line" && cmp -s "$room/without.$line" <(sed "${line}d" "$room/replies") &&
+            [ "$(sed -n "${line}s/ .*//p" "$room/replies")" = "$(sed -n "${line}s/ .*//p" "$room/list")" ]; then
+            echo "line $line found no memory"
+        else
+            echo "WRONG: line $line found no memory, and other replies changed"
+        fi
+    else
+        echo "WRONG: status $status, $count replies"
+    fi
+}
+
+grep -v '^#' "$top/examples/first.events" | grep -v '^[[:space:]]*$' >"$room/list"
+if ! try "$room/list" "$room/whole"; then
+    cat "$room/whole.log" >&2
     exit 2
 fi
-top="$(cd "$(dirname "${BASH_SOURCE[0]}")/.." && pwd)"
-folder="${2:-$(mktemp -d)}"
-mkdir -p "$folder" || exit 2
-folder="$(cd "$folder" && pwd)"
-cd "$top/crates/graph_shell" || exit 2
+echo "without a fault: $(wc -l <"$room/list") lines, $(wc -l <"$room/whole") replies"
 
-bad=0
-for ((n = 1; n <= most; n++)); do
-    rt try --test --fail-alloc "$n" >"$folder/$n.log" 2>&1 </dev/null
-    status=$?
-    case $status in
-        0) what="passed" ;;
-        2) what="rt judged nothing" ;;
-        3) what="rt met a limit" ;;
-        4) what="FAULT" ;;
-        5) what="two runs differ" ;;
-        6) what="no answer" ;;
-        *) what="a test ended early" ;;
+runs=0 wrong=0
+for ((n = first; n <= last; n += step)); do
+    try "$room/list" "$room/replies" --fail-alloc "$n"
+    verdict="$(judge $?)"
+    runs=$((runs + 1))
+    case "$verdict" in
+        WRONG*) wrong=$((wrong + 1)) ;;
     esac
-    case $status in
-        2 | 3 | 4 | 5 | 6) bad=1 ;;
-    esac
-    printf '%6d  status %3d  %-18s  %s\n' "$n" "$status" "$what" "$(tail -n 1 "$folder/$n.log")"
+    printf '%6d  %s\n' "$n" "$verdict"
 done
-echo "what each run wrote: $folder"
-exit $bad
+echo "$runs runs, $wrong wrong"
+[ "$wrong" -eq 0 ]

@@ -1,24 +1,20 @@
 -- What the core keeps after the end of a transaction is the next world.
-use Rattle.std.proofs.Common.{◌≡◌, ℕ, ◌+◌, ◌-◌, ◌≤◌, List, [], ◌∷◌, ◌++◌, Option, Some, None, Bool, true, false, not, ◌&&◌, ◌||◌, cond, length, get_or, refl, sym, ap, subst, ◌∙◌, arith, map}
+use Rattle.std.proofs.Common.{◌≡◌, ℕ, ◌+◌, ◌-◌, ◌≤◌, List, [], ◌∷◌, ◌++◌, Option, Some, None, Bool, true, false, ◌&&◌, ◌||◌, cond, length, get_or, refl, sym, ap, subst, ◌∙◌, arith, map, inl, inr}
 use Rattle.std.specs.Prelude.{nat_eq, nat_lt, nat_le}
 use Rattle.std.specs.List.{list_any, list_all}
 use Rattle.std.proofs.lemmas.Bool.{false≢true}
 use Rattle.std.proofs.lemmas.Bool.Decides.{nat_tests}
 use Rattle.std.proofs.lemmas.List.{get_or_past}
 use Rattle.graph_value.specs.declared.id.VertexId.{VertexId}
-use Rattle.graph_value.specs.declared.id.EdgeId.{EdgeId}
 use Rattle.graph_value.specs.declared.id.Oid.{Oid}
 use Rattle.graph_value.specs.declared.id.Oid.TheVariants.{Vertex, Edge}
-use Rattle.graph_record.specs.declared.object.Object.TheVariants.{Dead}
-use Rattle.graph_record.specs.Graph.{Graph, empty_graph, object_at, is_dead}
 use Rattle.txn_manager.specs.declared.running.Running.{Running}
 use Rattle.txn_manager.specs.RunningList as list
 use Rattle.txn_manager.specs.Transactions.{Transactions}
-use Rattle.world_model.specs.Op.{Op, create_vertex, set_vertex_property, set_edge_property, apply, apply_all, is_touched, are_touching, is_possible, changes, are_sound}
-use Rattle.world_model.specs.Change.{object_after_all}
-use Rattle.world_model.specs.World.{World, Txn, find_txn, txn_of, fold_of, ops_of, before}
+use Rattle.undo_delta.specs.declared.op.Op.{Op}
+use Rattle.world_model.specs.Op.{are_touching}
+use Rattle.world_model.specs.World.{World, Txn, find_txn, txn_of}
 use Rattle.world_model.specs.Step.{without, committed}
-use Rattle.world_model.proofs.Objects.{object_at-apply_all}
 use Rattle.world_model.proofs.Folds.{and_left_true, and_right_true, both_true, nat_eq_refl}
 use Rattle.world_model.proofs.Begins.{touching_none}
 use Rattle.world_model.proofs.Commits.{commit_keeps_order, empty_commit_keeps_order}
@@ -30,6 +26,7 @@ use Rattle.front_core.specs.Commits.{commit_listed, row_committed}
 use Rattle.front_core.specs.Finished.{Finished, is_listed}
 use Rattle.front_core.specs.Keeps.{Kept, Keeps, FitsRow, FitsDraft, row_at}
 use Rattle.front_core.proofs.CommitsLemmas.{get_or-commit_listed, length-commit_listed}
+use Rattle.front_core.proofs.NoEdges.{edge_untouched, vertex_or_edge}
 use Rattle.front_core.proofs.RowPlaces.{row_of}
 use Rattle.front_core.proofs.Drafts.{equal_of, some_same, differ_of}
 use Rattle.front_core.proofs.Fits.{left_row, other_row, own_row, committed_world, left_world}
@@ -109,21 +106,6 @@ finished_row k w c ts u keeps = by_first (nat_lt u k.first) refl
         ∙ ap (λ b. cond b (row_committed ts (get_or k.rows (u - k.first) no_versions)) (get_or k.rows (u - k.first) no_versions)) listed
         ∙ ap (λ (r : Versions). cond (is_draft_of c (row_of k.first k.rows u).draft) (row_committed ts r) r) (sym row)
 
--- no edge is ever made
-edges_stay_dead : (ops : List Op) (e : EdgeId) → object_after_all ops (Edge e) Dead ≡ Dead
-unfolding object_after_all
-edges_stay_dead [] e = refl
-edges_stay_dead (create_vertex v ∷ ops) e = edges_stay_dead ops e
-edges_stay_dead (set_vertex_property v k x ∷ ops) e = edges_stay_dead ops e
-edges_stay_dead (set_edge_property f k x ∷ ops) e = ap (object_after_all ops (Edge e)) (either (is_touched (set_edge_property f k x) (Edge e))) ∙ edges_stay_dead ops e
-  where
-    either : (b : Bool) → cond b Dead Dead ≡ Dead
-    either true = refl
-    either false = refl
-
-pub edge_dead : (ops : List Op) (e : EdgeId) → object_at (apply_all ops empty_graph) (Edge e) ≡ Dead
-edge_dead ops e = object_at-apply_all ops empty_graph (Edge e) ∙ edges_stay_dead ops e
-
 module _ (k : Kept) (w : World) (c : ℕ) (p : Txn) (keeps : Keeps k w) (open_p : txn_of w c ≡ Some p) where
   -- the caller's draft stands where its writes touch
   pub drafted_where : (v : ℕ) → are_touching p.ops (Vertex (record { 0 = v })) ≡ true → is_draft_of c (row_at k (Vertex (record { 0 = v }))).draft ≡ true
@@ -161,30 +143,20 @@ module _ (k : Kept) (w : World) (c : ℕ) (p : Txn) (keeps : Keeps k w) (open_p 
           let listed : list_any (nat_eq v) (vertices_of k.writes c) ≡ true = ap (list_any (nat_eq v)) e ∙ ap (λ b. b || list_any (nat_eq v) vs) (nat_eq_refl v) in
           absurd (false≢true (sym (none_drafted none v) ∙ (sym (keeps.listed c v) ∙ listed)))
 
+  listed_by : (v : VertexId) → are_touching p.ops (Vertex v) ≡ true → is_listed (vertices_of k.writes c) ≡ true
+  listed_by v t = by_list (vertices_of k.writes c) refl (keeps.listed c v.0 ∙ drafted_where v.0 t)
+    where
+      by_list : (vs : List ℕ) → vertices_of k.writes c ≡ vs → list_any (nat_eq v.0) (vertices_of k.writes c) ≡ true → is_listed (vertices_of k.writes c) ≡ true
+      by_list [] e l = absurd (false≢true (sym (ap (list_any (nat_eq v.0)) e) ∙ l))
+      by_list (u ∷ us) e l = ap is_listed e
+
   -- and one with writes has a list of some
   pub some_list : (op : Op) (ops : List Op) → p.ops ≡ op ∷ ops → is_listed (vertices_of k.writes c) ≡ true
-  unfolding are_touching are_sound
-  some_list (create_vertex v) ops e = has v (ap (λ os. are_touching os (Vertex v)) e ∙ ap (λ b. (b || false) || are_touching ops (Vertex v)) (nat_eq_refl v.0))
-    where
-      has : (v : VertexId) → are_touching p.ops (Vertex v) ≡ true → is_listed (vertices_of k.writes c) ≡ true
-      has v t = by_list (vertices_of k.writes c) refl (keeps.listed c v.0 ∙ drafted_where v.0 t)
-        where
-          by_list : (vs : List ℕ) → vertices_of k.writes c ≡ vs → list_any (nat_eq v.0) (vertices_of k.writes c) ≡ true → is_listed (vertices_of k.writes c) ≡ true
-          by_list [] e l = absurd (false≢true (sym (ap (list_any (nat_eq v.0)) e) ∙ l))
-          by_list (u ∷ us) e l = ap is_listed e
-  some_list (set_vertex_property v name x) ops e = has v (ap (λ os. are_touching os (Vertex v)) e ∙ ap (λ b. (b || false) || are_touching ops (Vertex v)) (nat_eq_refl v.0))
-    where
-      has : (v : VertexId) → are_touching p.ops (Vertex v) ≡ true → is_listed (vertices_of k.writes c) ≡ true
-      has v t = by_list (vertices_of k.writes c) refl (keeps.listed c v.0 ∙ drafted_where v.0 t)
-        where
-          by_list : (vs : List ℕ) → vertices_of k.writes c ≡ vs → list_any (nat_eq v.0) (vertices_of k.writes c) ≡ true → is_listed (vertices_of k.writes c) ≡ true
-          by_list [] e l = absurd (false≢true (sym (ap (list_any (nat_eq v.0)) e) ∙ l))
-          by_list (u ∷ us) e l = ap is_listed e
-  some_list (set_edge_property f name x) ops e =
-      let base : Graph = fold_of (before p.start w.commits) in
-      let sound : are_sound (set_edge_property f name x ∷ ops) base ≡ true = ap (λ os. are_sound os base) (sym e) ∙ keeps.ordered.running_sound c p open_p in
-      let possible : not (is_dead (object_at base (Edge f))) ≡ true = and_left_true (is_possible (set_edge_property f name x) base) (changes (set_edge_property f name x) base) (and_left_true _ (are_sound ops (apply (set_edge_property f name x) base)) sound) in
-      absurd (false≢true (sym (ap (λ o. not (is_dead o)) (edge_dead (ops_of (before p.start w.commits)) f)) ∙ possible))
+  unfolding are_touching
+  some_list op ops e = elim (vertex_or_edge op) [
+    | inl found ↦ listed_by found.0 (ap (λ os. are_touching os (Vertex found.0)) e ∙ ap (λ b. b || are_touching ops (Vertex found.0)) found.1)
+    | inr found ↦ absurd (false≢true (sym (edge_untouched k w c p keeps open_p found.0) ∙ (ap (λ os. are_touching os (Edge found.0)) e ∙ ap (λ b. b || are_touching ops (Edge found.0)) found.1)))
+  ]
 
   list_start : list.without c (map bare w.running) ≡ map bare (without c w.running)
   list_start = sym (map-without w.running c)

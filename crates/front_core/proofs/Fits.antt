@@ -6,10 +6,14 @@ use Rattle.std.proofs.lemmas.Bool.Decides.{nat_tests}
 use Rattle.graph_value.specs.declared.id.Oid.{Oid}
 use Rattle.graph_record.specs.declared.object.Object.{Object}
 use Rattle.graph_record.specs.Graph.{Graph, empty_graph, object_at}
-use Rattle.world_model.specs.Op.{Op, apply_all, are_touching, is_touched}
-use Rattle.world_model.specs.Change.{object_after, object_after_all, changed}
+use Rattle.undo_delta.specs.Change.{changed}
+use Rattle.undo_delta.specs.Touch.{is_touched}
+use Rattle.undo_delta.specs.declared.op.Op.{Op}
+use Rattle.world_model.specs.declared.event.Ask.{Ask}
+use Rattle.world_model.specs.Op.{apply_all, are_touching}
+use Rattle.world_model.specs.Change.{object_after, object_after_all}
 use Rattle.world_model.specs.World.{World, Commit, Txn, find_txn, txn_of, view_of, fold_of, ops_of, before, InOrder}
-use Rattle.world_model.specs.Step.{or_else, with_op, without, begun_world, written_world}
+use Rattle.world_model.specs.Step.{or_else, with_op, without, begun_world, written_world, op_of}
 use Rattle.world_model.proofs.Objects.{object_at-apply, object_at-apply_all, apply_all-append, are_touching-append, object_after_all-append}
 use Rattle.world_model.proofs.Txns.{find_txn-append, find_txn-with_op, find_txn-without, with_write}
 use Rattle.world_model.proofs.Begins.{begun_found, fresh, no_touch, touching_none}
@@ -53,52 +57,52 @@ found_other ps c op d q ne f =
     ∙ f
 
 -- the view with one more write
-pub view_written : (w : World) (c : ℕ) (p : Txn) (op : Op) (x : Oid) → object_at (view_of (written_world w c op) (with_write op p)) x ≡ object_after op x (object_at (view_of w p) x)
+pub view_written : (w : World) (c : ℕ) (p : Txn) (ask : Ask) (x : Oid) → object_at (view_of (written_world w c ask) (with_write (op_of w ask) p)) x ≡ object_after (op_of w ask) x (object_at (view_of w p) x)
 unfolding apply_all
-view_written w c p op x =
-    ap (λ (g : Graph). object_at g x) (apply_all-append p.ops (op ∷ []) (fold_of (before p.start w.commits)))
-    ∙ object_at-apply op (view_of w p) x
+view_written w c p ask x =
+    ap (λ (g : Graph). object_at g x) (apply_all-append p.ops ((op_of w ask) ∷ []) (fold_of (before p.start w.commits)))
+    ∙ object_at-apply (op_of w ask) (view_of w p) x
 
 touching_written : (p : Txn) (op : Op) (x : Oid) → are_touching (p.ops ++ op ∷ []) x ≡ (are_touching p.ops x || (is_touched op x || false))
 unfolding are_touching
 touching_written p op x = are_touching-append p.ops (op ∷ []) x
 
 -- a write leaves the rows of the objects that it doesn't touch
-pub written_draft : (w : World) (c : ℕ) (p : Txn) (op : Op) (x : Oid) → txn_of w c ≡ Some p → is_touched op x ≡ false → (dr : Option Draft) → FitsDraft w x dr → FitsDraft (written_world w c op) x dr
-written_draft w c p op x open_p quiet None fits = λ d q f. by_case d q (written_found c op w.running d q f)
+pub written_draft : (w : World) (c : ℕ) (p : Txn) (ask : Ask) (x : Oid) → txn_of w c ≡ Some p → is_touched (op_of w ask) x ≡ false → (dr : Option Draft) → FitsDraft w x dr → FitsDraft (written_world w c ask) x dr
+written_draft w c p ask x open_p quiet None fits = λ d q f. by_case d q (written_found c (op_of w ask) w.running d q f)
   where
-    by_case : (d : ℕ) (q : Txn) → Written c op w.running d q → are_touching q.ops x ≡ false
+    by_case : (d : ℕ) (q : Txn) → Written c (op_of w ask) w.running d q → are_touching q.ops x ≡ false
     by_case d q (own r e f is) =
         subst (λ (t : Txn). are_touching t.ops x ≡ false) (sym is)
-        (touching_written r op x ∙ ap (λ b. b || (is_touched op x || false)) (fits d r f) ∙ ap (λ b. b || false) quiet)
+        (touching_written r (op_of w ask) x ∙ ap (λ b. b || (is_touched (op_of w ask) x || false)) (fits d r f) ∙ ap (λ b. b || false) quiet)
     by_case d q (others ne f) = fits d q f
-written_draft w c p op x open_p quiet (Some d) (q, found, touched, same) = by_caller (nat_eq c d.caller) refl
+written_draft w c p ask x open_p quiet (Some d) (q, found, touched, same) = by_caller (nat_eq c d.caller) refl
   where
-    by_caller : (b : Bool) → nat_eq c d.caller ≡ b → FitsDraft (written_world w c op) x (Some d)
+    by_caller : (b : Bool) → nat_eq c d.caller ≡ b → FitsDraft (written_world w c ask) x (Some d)
     by_caller true e =
         let at : c ≡ d.caller = equal_of c d.caller e in
         let mine : p ≡ q = some_same (sym open_p ∙ ap (find_txn w.running) at ∙ found) in (
-          with_write op p,
-          subst (λ (n : ℕ). find_txn (with_op w.running c op) n ≡ Some (with_write op p)) at (found_written w.running c op p open_p),
-          touching_written p op x ∙ ap (λ b. b || (is_touched op x || false)) (ap (λ (t : Txn). are_touching t.ops x) mine ∙ touched),
-          same ∙ ap (λ (t : Txn). object_at (view_of w t) x) (sym mine) ∙ sym (view_written w c p op x ∙ ap (λ b. cond b (changed op (object_at (view_of w p) x)) (object_at (view_of w p) x)) quiet),
+          with_write (op_of w ask) p,
+          subst (λ (n : ℕ). find_txn (with_op w.running c (op_of w ask)) n ≡ Some (with_write (op_of w ask) p)) at (found_written w.running c (op_of w ask) p open_p),
+          touching_written p (op_of w ask) x ∙ ap (λ b. b || (is_touched (op_of w ask) x || false)) (ap (λ (t : Txn). are_touching t.ops x) mine ∙ touched),
+          same ∙ ap (λ (t : Txn). object_at (view_of w t) x) (sym mine) ∙ sym (view_written w c p ask x ∙ ap (λ b. cond b (changed (op_of w ask) x (object_at (view_of w p) x)) (object_at (view_of w p) x)) quiet),
         )
-    by_caller false e = (q, found_other w.running c op d.caller q e found, touched, same)
+    by_caller false e = (q, found_other w.running c (op_of w ask) d.caller q e found, touched, same)
 
-pub written_beside : (w : World) (c : ℕ) (p : Txn) (op : Op) (x : Oid) (r : Versions) → txn_of w c ≡ Some p → is_touched op x ≡ false → FitsRow w x r → FitsRow (written_world w c op) x r
-written_beside w c p op x r open_p quiet fits = record { committed = fits.committed; draft = written_draft w c p op x open_p quiet r.draft fits.draft }
+pub written_beside : (w : World) (c : ℕ) (p : Txn) (ask : Ask) (x : Oid) (r : Versions) → txn_of w c ≡ Some p → is_touched (op_of w ask) x ≡ false → FitsRow w x r → FitsRow (written_world w c ask) x r
+written_beside w c p ask x r open_p quiet fits = record { committed = fits.committed; draft = written_draft w c p ask x open_p quiet r.draft fits.draft }
 
 -- and the object that it touches has the caller's draft
-pub written_at : (w : World) (c : ℕ) (p : Txn) (op : Op) (x : Oid) (committed : List Version) (object : Object) → txn_of w c ≡ Some p → is_touched op x ≡ true →
-    committed ≡ versions_of w.commits x → object ≡ changed op (object_at (view_of w p) x) →
-    FitsRow (written_world w c op) x (record { committed = committed; draft = Some (record { caller = c; object = object }) })
-written_at w c p op x committed object open_p touched versions made = record {
+pub written_at : (w : World) (c : ℕ) (p : Txn) (ask : Ask) (x : Oid) (committed : List Version) (object : Object) → txn_of w c ≡ Some p → is_touched (op_of w ask) x ≡ true →
+    committed ≡ versions_of w.commits x → object ≡ changed (op_of w ask) x (object_at (view_of w p) x) →
+    FitsRow (written_world w c ask) x (record { committed = committed; draft = Some (record { caller = c; object = object }) })
+written_at w c p ask x committed object open_p touched versions made = record {
   committed = versions;
   draft = (
-    with_write op p,
-    found_written w.running c op p open_p,
-    touching_written p op x ∙ ap (λ b. are_touching p.ops x || (b || false)) touched ∙ or_true (are_touching p.ops x),
-    made ∙ sym (view_written w c p op x ∙ ap (λ b. cond b (changed op (object_at (view_of w p) x)) (object_at (view_of w p) x)) touched),
+    with_write (op_of w ask) p,
+    found_written w.running c (op_of w ask) p open_p,
+    touching_written p (op_of w ask) x ∙ ap (λ b. are_touching p.ops x || (b || false)) touched ∙ or_true (are_touching p.ops x),
+    made ∙ sym (view_written w c p ask x ∙ ap (λ b. cond b (changed (op_of w ask) x (object_at (view_of w p) x)) (object_at (view_of w p) x)) touched),
   );
 }
   where

@@ -10,10 +10,11 @@ use Rattle.graph_record.specs.declared.object.Object.{Object}
 use Rattle.graph_record.specs.Graph.{object_at}
 use Rattle.txn_manager.specs.declared.running.Running.{Running}
 use Rattle.txn_manager.specs.Transactions.{Transactions, begin_refusal, begun}
-use Rattle.world_model.specs.Op.{Op, is_touched, same_oid}
-use Rattle.world_model.specs.Change.{changed}
+use Rattle.undo_delta.specs.Change.{changed}
+use Rattle.undo_delta.specs.Touch.{is_touched, same_oid}
+use Rattle.world_model.specs.declared.event.Ask.{Ask}
 use Rattle.world_model.specs.World.{World, Txn, txn_of, view_of, transactions_of, InOrder, rival_at}
-use Rattle.world_model.specs.Step.{begun_world, written_world, vertices_made}
+use Rattle.world_model.specs.Step.{begun_world, written_world, vertices_made, op_of}
 use Rattle.world_model.proofs.Objects.{or_false}
 use Rattle.world_model.proofs.Begins.{begin_keeps_order, fresh}
 use Rattle.world_model.proofs.Writes.{target, touches_target, free_of_others}
@@ -56,8 +57,8 @@ no_other_draft w c p x (Some e) (q, found, touched, same) open_p free d ne = by_
         absurd (false≢true (sym (free_of_others w p x free e.caller q found at) ∙ touched))
     by_caller false t = t
 
-touched_by : (op : Op) (v : VertexId) (x : Oid) → target op ≡ Vertex v → is_touched op x ≡ same_oid x (Vertex v)
-touched_by op v x at = ap (list_any (same_oid x)) (touches_target op) ∙ or_false (same_oid x (target op)) ∙ ap (same_oid x) at
+touched_by : (w : World) (ask : Ask) (v : VertexId) (x : Oid) → target w ask ≡ Vertex v → is_touched (op_of w ask) x ≡ same_oid x (Vertex v)
+touched_by w ask v x at = ap (list_any (same_oid x)) (touches_target w ask) ∙ or_false (same_oid x (target w ask)) ∙ ap (same_oid x) at
 
 or_all : (b : Bool) → (b || false) ≡ b
 or_all true = refl
@@ -68,14 +69,14 @@ and_none true = refl
 and_none false = refl
 
 -- a write that drafts one vertex
-pub keeps_drafted : (k k' : Kept) (w : World) (c : ℕ) (p : Txn) (op : Op) (v : ℕ) (object : Object) → Keeps k w → txn_of w c ≡ Some p →
-    target op ≡ Vertex (record { 0 = v }) → rival_at w p (Vertex (record { 0 = v })) ≡ None → InOrder (written_world w c op) →
-    object ≡ changed op (object_at (view_of w p) (Vertex (record { 0 = v }))) →
-    Drafted k k' c v (vertices_made op) object → Keeps k' (written_world w c op)
-keeps_drafted k k' w c p op v object keeps open_p at free ordered made d = record {
+pub keeps_drafted : (k k' : Kept) (w : World) (c : ℕ) (p : Txn) (ask : Ask) (v : ℕ) (object : Object) → Keeps k w → txn_of w c ≡ Some p →
+    target w ask ≡ Vertex (record { 0 = v }) → rival_at w p (Vertex (record { 0 = v })) ≡ None → InOrder (written_world w c ask) →
+    object ≡ changed (op_of w ask) (Vertex (record { 0 = v })) (object_at (view_of w p) (Vertex (record { 0 = v }))) →
+    Drafted k k' c v (vertices_made ask) object → Keeps k' (written_world w c ask)
+keeps_drafted k k' w c p ask v object keeps open_p at free ordered made d = record {
   ordered = ordered;
-  transactions = d.transactions ∙ keeps.transactions ∙ ap (λ (rs : List Running). record { clock = w.clock; running = rs }) (sym (map-with_op w.running c op));
-  vertices = ap (λ n. n + length k'.rows) d.first ∙ ap (λ n. k.first + n) d.count ∙ sum k.first (length k.rows) (vertices_made op) ∙ ap (λ n. n + vertices_made op) keeps.vertices;
+  transactions = d.transactions ∙ keeps.transactions ∙ ap (λ (rs : List Running). record { clock = w.clock; running = rs }) (sym (map-with_op w.running c (op_of w ask)));
+  vertices = ap (λ n. n + length k'.rows) d.first ∙ ap (λ n. k.first + n) d.count ∙ sum k.first (length k.rows) (vertices_made ask) ∙ ap (λ n. n + vertices_made ask) keeps.vertices;
   edges = d.edges ∙ keeps.edges;
   rows = by_kind;
   listed = by_list;
@@ -87,22 +88,22 @@ keeps_drafted k k' w c p op v object keeps open_p at free ordered made d = recor
     fits : FitsRow w (Vertex (record { 0 = v })) (row_at k (Vertex (record { 0 = v })))
     fits = keeps.rows (Vertex (record { 0 = v }))
 
-    by_kind : (x : Oid) → FitsRow (written_world w c op) x (row_at k' x)
-    by_kind (Edge e) = written_beside w c p op (Edge e) no_versions open_p (touched_by op (record { 0 = v }) (Edge e) at) (keeps.rows (Edge e))
+    by_kind : (x : Oid) → FitsRow (written_world w c ask) x (row_at k' x)
+    by_kind (Edge e) = written_beside w c p ask (Edge e) no_versions open_p (touched_by w ask (record { 0 = v }) (Edge e) at) (keeps.rows (Edge e))
     by_kind (Vertex u) = by_vertex (nat_eq u.0 v) refl
       where
-        by_vertex : (b : Bool) → nat_eq u.0 v ≡ b → FitsRow (written_world w c op) (Vertex u) (row_at k' (Vertex u))
+        by_vertex : (b : Bool) → nat_eq u.0 v ≡ b → FitsRow (written_world w c ask) (Vertex u) (row_at k' (Vertex u))
         by_vertex true e =
             let same : u ≡ record { 0 = v } = ap (λ (n : ℕ). record { 0 = n }) (equal_of u.0 v e) in
-            let at_v : FitsRow (written_world w c op) (Vertex (record { 0 = v })) (drafted (row_at k (Vertex (record { 0 = v }))) c object) =
-            written_at w c p op (Vertex (record { 0 = v })) (row_at k (Vertex (record { 0 = v }))).committed object open_p (touched_by op (record { 0 = v }) (Vertex (record { 0 = v })) at ∙ test_of v v refl) fits.committed made in
+            let at_v : FitsRow (written_world w c ask) (Vertex (record { 0 = v })) (drafted (row_at k (Vertex (record { 0 = v }))) c object) =
+            written_at w c p ask (Vertex (record { 0 = v })) (row_at k (Vertex (record { 0 = v }))).committed object open_p (touched_by w ask (record { 0 = v }) (Vertex (record { 0 = v })) at ∙ test_of v v refl) fits.committed made in
             let row : row_at k' (Vertex (record { 0 = v })) ≡ drafted (row_at k (Vertex (record { 0 = v }))) c object =
             d.rows v ∙ ap (λ b. cond b (drafted (row_at k (Vertex (record { 0 = v }))) c object) (row_at k (Vertex (record { 0 = v })))) (test_of v v refl) in
-            subst (λ (y : VertexId). FitsRow (written_world w c op) (Vertex y) (row_at k' (Vertex y))) (sym same) (subst (λ (r : Versions). FitsRow (written_world w c op) (Vertex (record { 0 = v })) r) (sym row) at_v)
+            subst (λ (y : VertexId). FitsRow (written_world w c ask) (Vertex y) (row_at k' (Vertex y))) (sym same) (subst (λ (r : Versions). FitsRow (written_world w c ask) (Vertex (record { 0 = v })) r) (sym row) at_v)
         by_vertex false e =
-            let beside : FitsRow (written_world w c op) (Vertex u) (row_at k (Vertex u)) =
-            written_beside w c p op (Vertex u) (row_at k (Vertex u)) open_p (touched_by op (record { 0 = v }) (Vertex u) at ∙ e) (keeps.rows (Vertex u)) in
-            subst (λ (r : Versions). FitsRow (written_world w c op) (Vertex u) r) (sym (d.rows u.0 ∙ ap (λ b. cond b (drafted (row_at k (Vertex (record { 0 = v }))) c object) (row_at k (Vertex u))) e)) beside
+            let beside : FitsRow (written_world w c ask) (Vertex u) (row_at k (Vertex u)) =
+            written_beside w c p ask (Vertex u) (row_at k (Vertex u)) open_p (touched_by w ask (record { 0 = v }) (Vertex u) at ∙ e) (keeps.rows (Vertex u)) in
+            subst (λ (r : Versions). FitsRow (written_world w c ask) (Vertex u) r) (sym (d.rows u.0 ∙ ap (λ b. cond b (drafted (row_at k (Vertex (record { 0 = v }))) c object) (row_at k (Vertex u))) e)) beside
 
     by_list : (a u : ℕ) → list_any (nat_eq u) (vertices_of k'.writes a) ≡ is_draft_of a (row_at k' (Vertex (record { 0 = u }))).draft
     by_list a u =

@@ -6,6 +6,7 @@ pub mod Drafts
 pub mod Fits
 pub mod RowPlaces
 pub mod Keeping
+pub mod NoEdges
 pub mod Committing
 pub mod Steps
 pub mod Starts

@@ -1,5 +1,5 @@
 -- Each answer of the core, as a step of the world that it keeps.
-use Rattle.std.proofs.Common.{◌≡◌, ℕ, ◌+◌, ◌^◌, List, [], ◌∷◌, ◌++◌, Option, Some, None, Bool, true, false, not, cond, length, refl, sym, ap, subst, ◌∙◌, ◌⊎◌, inl, inr, arith}
+use Rattle.std.proofs.Common.{◌≡◌, ℕ, ◌+◌, ◌^◌, List, [], ◌∷◌, Option, Some, None, Bool, true, false, not, cond, length, refl, sym, ap, subst, ◌∙◌, ◌⊎◌, inl, inr, arith}
 use Rattle.std.specs.Prelude.{nat_eq, nat_le, is_some, IfSome, Result, Err}
 use Rattle.std.proofs.lemmas.Bool.{false≢true}
 use Rattle.graph_value.specs.declared.value.Value.{Value}
@@ -10,7 +10,7 @@ use Rattle.graph_value.specs.declared.id.Oid.TheVariants.{Vertex, Edge}
 use Rattle.graph_record.specs.declared.object.Object.{Object}
 use Rattle.graph_record.specs.declared.object.Object.TheVariants as object
 use Rattle.graph_record.specs.Record.{empty_vertex}
-use Rattle.graph_record.specs.Graph.{Graph, empty_graph, object_at, is_dead}
+use Rattle.graph_record.specs.Graph.{object_at, is_dead}
 use Rattle.txn_manager.specs.declared.running.Running.{Running}
 use Rattle.txn_manager.specs.declared.rivals.Rival.{Rival}
 use Rattle.txn_manager.specs.declared.refusals.BeginRefused.{BeginRefused}
@@ -28,12 +28,15 @@ use Rattle.world_model.specs.declared.answer.Answer.TheVariants as answer
 use Rattle.world_model.specs.declared.answer.Wrote.TheVariants as wrote
 use Rattle.world_model.specs.declared.answer.Refused.{Refused}
 use Rattle.world_model.specs.declared.answer.Refused.TheVariants.{NoTxn, Missing, Conflict, IdEnd, NoMemory}
-use Rattle.world_model.specs.Op.{Op, changes, is_value, property_of, touches}
-use Rattle.world_model.specs.Change.{with_property}
-use Rattle.world_model.specs.World.{World, Txn, txn_of, view_of, ops_of, before, transactions_of, InOrder, rival_at}
+use Rattle.graph_value.specs.Value.{same_value}
+use Rattle.undo_delta.specs.Apply.{with_property}
+use Rattle.undo_delta.specs.Change.{value_at, kept}
+use Rattle.undo_delta.specs.Touch.{touches}
+use Rattle.undo_delta.specs.declared.op.Op.{Op}
+use Rattle.world_model.specs.Op.{changes}
+use Rattle.world_model.specs.World.{World, Txn, txn_of, view_of, transactions_of, InOrder, rival_at}
 use Rattle.world_model.specs.Step.{Outcome, step, refused, refused_begin, begin_step, read_step, write_step, commit_step, allowed_write_step, effect_step, written_world, write_refusal, missing, conflict, conflict_at, id_end, named, op_of, or_else, committed}
 use Rattle.world_model.specs.History.{Entry, is_no_memory, is_refused, is_refusal_no_memory, may_want}
-use Rattle.world_model.proofs.Objects.{apply_all-append}
 use Rattle.world_model.proofs.Writes.{write_keeps_order}
 use Rattle.world_model.proofs.Lists.{start_of-map, start_of-none}
 use Rattle.front_core.specs.declared.decision.Decision.{Decision}
@@ -49,7 +52,8 @@ use Rattle.front_core.specs.Keeps.{Kept, Keeps, row_at}
 use Rattle.front_core.specs.Obeys.{Obeys}
 use Rattle.front_core.proofs.Drafts as drafts
 use Rattle.front_core.proofs.Keeping.{keeps_begun, keeps_drafted}
-use Rattle.front_core.proofs.Committing.{keeps_finished, edge_dead, empty_list, some_list}
+use Rattle.front_core.proofs.Committing.{keeps_finished, empty_list, some_list}
+use Rattle.front_core.proofs.NoEdges.{edge_dead}
 
 abbrev entry : ℕ → Event → Answer → Entry
 entry c e r = record { caller = c; event = e; reply = r }
@@ -150,8 +154,7 @@ obeys_read_no_memory k w c start x when keeps h =
 pub obeys_set_edge : (k : Kept) (w : World) (c start : ℕ) (e : EdgeId) (name : List ℕ) (x : Value) → Keeps k w → start_of k.transactions.running c ≡ Some start → Obeys w k (entry c (event.Write (SetEdgeProp e name x)) (answer.Refused (Missing (Edge e))))
 obeys_set_edge k w c start e name x keeps h =
     let t = open_txn k w c start keeps h in
-    let dead : object_at (view_of w t.0) (Edge e) ≡ object.Dead =
-    ap (λ (g : Graph). object_at g (Edge e)) (sym (apply_all-append (ops_of (before t.0.start w.commits)) t.0.ops empty_graph)) ∙ edge_dead (ops_of (before t.0.start w.commits) ++ t.0.ops) e in
+    let dead : object_at (view_of w t.0) (Edge e) ≡ object.Dead = edge_dead k w c t.0 keeps t.1 e in
     obeys_refusal k w c (event.Write (SetEdgeProp e name x)) (Missing (Edge e)) keeps
     (ap (write_step w c (SetEdgeProp e name x)) t.1
     ∙ ap (λ b. allowed_write_step w t.0 c (SetEdgeProp e name x) (or_else (cond b (Some (Missing (Edge e))) None) (or_else (conflict w t.0 (touches (op_of w (SetEdgeProp e name x)))) (id_end w (SetEdgeProp e name x))))) (ap is_dead dead))
@@ -209,10 +212,10 @@ module _ (k : Kept) (w : World) (c start : ℕ) (v : VertexId) (name : List ℕ)
       ∙ drafts.row_rival w keeps.ordered (Vertex v) p r (keeps.rows (Vertex v))
 
   -- the decision over what the world says
-  in_world : set_decision k.transactions.running c start v name x r ≡ decided v (is_dead (object_at (view_of w p) (Vertex v))) (rival_at w p (Vertex v)) (is_value x (property_of (object_at (view_of w p) (Vertex v)) name))
+  in_world : set_decision k.transactions.running c start v name x r ≡ decided v (is_dead (object_at (view_of w p) (Vertex v))) (rival_at w p (Vertex v)) (same_value (value_at name (object_at (view_of w p) (Vertex v))) (kept x))
   in_world =
-      ap (λ (o : Object). decided v (is_dead o) (row_rival k.transactions.running c start r) (is_value x (property_of o name))) seen_is
-      ∙ ap (λ (q : Option Rival). decided v (is_dead (object_at (view_of w p) (Vertex v))) q (is_value x (property_of (object_at (view_of w p) (Vertex v)) name))) rival_is
+      ap (λ (o : Object). decided v (is_dead o) (row_rival k.transactions.running c start r) (same_value (value_at name o) (kept x))) seen_is
+      ∙ ap (λ (q : Option Rival). decided v (is_dead (object_at (view_of w p) (Vertex v))) q (same_value (value_at name (object_at (view_of w p) (Vertex v))) (kept x))) rival_is
 
   set_step : write_step w c ask (txn_of w c) ≡ allowed_write_step w p c ask (write_refusal w p ask)
   set_step = ap (write_step w c ask) open_p
@@ -220,28 +223,28 @@ module _ (k : Kept) (w : World) (c start : ℕ) (v : VertexId) (name : List ℕ)
   pub obeys_set_refused : (why : Refused) → set_decision k.transactions.running c start v name x r ≡ Refuse why → Obeys w k (entry c (event.Write ask) (answer.Refused why))
   obeys_set_refused why d =
       obeys_refusal k w c (event.Write ask) why keeps
-      (set_step ∙ ap (allowed_write_step w p c ask) (refuses v (is_dead (object_at (view_of w p) (Vertex v))) (rival_at w p (Vertex v)) (is_value x (property_of (object_at (view_of w p) (Vertex v)) name)) why (sym in_world ∙ d)))
+      (set_step ∙ ap (allowed_write_step w p c ask) (refuses v (is_dead (object_at (view_of w p) (Vertex v))) (rival_at w p (Vertex v)) (same_value (value_at name (object_at (view_of w p) (Vertex v))) (kept x)) why (sym in_world ∙ d)))
 
   pub obeys_set_unchanged : set_decision k.transactions.running c start v name x r ≡ Unchanged → Obeys w k (entry c (event.Write ask) (answer.Wrote wrote.Unchanged))
   obeys_set_unchanged d =
-      let s = stays v (is_dead (object_at (view_of w p) (Vertex v))) (rival_at w p (Vertex v)) (is_value x (property_of (object_at (view_of w p) (Vertex v)) name)) (sym in_world ∙ d) in
+      let s = stays v (is_dead (object_at (view_of w p) (Vertex v))) (rival_at w p (Vertex v)) (same_value (value_at name (object_at (view_of w p) (Vertex v))) (kept x)) (sym in_world ∙ d) in
       obeys_step k w w c (event.Write ask) (answer.Wrote wrote.Unchanged)
-      (set_step ∙ ap (allowed_write_step w p c ask) s.0 ∙ ap (λ b. effect_step w c (op_of w ask) (not b)) s.1) refl keeps
+      (set_step ∙ ap (allowed_write_step w p c ask) s.0 ∙ ap (λ b. effect_step w c ask (not b)) s.1) refl keeps
 
   pub obeys_set_no_memory : set_decision k.transactions.running c start v name x r ≡ Set → Obeys w k (entry c (event.Write ask) (answer.Refused NoMemory))
   obeys_set_no_memory d =
-      let s = sets v (is_dead (object_at (view_of w p) (Vertex v))) (rival_at w p (Vertex v)) (is_value x (property_of (object_at (view_of w p) (Vertex v)) name)) (sym in_world ∙ d) in
+      let s = sets v (is_dead (object_at (view_of w p) (Vertex v))) (rival_at w p (Vertex v)) (same_value (value_at name (object_at (view_of w p) (Vertex v))) (kept x)) (sym in_world ∙ d) in
       obeys_no_memory k w c (event.Write ask) keeps
-      (ap (λ (o : Outcome). not (is_refused o.reply)) (set_step ∙ ap (allowed_write_step w p c ask) s.0 ∙ ap (λ b. effect_step w c (op_of w ask) (not b)) s.1))
+      (ap (λ (o : Outcome). not (is_refused o.reply)) (set_step ∙ ap (allowed_write_step w p c ask) s.0 ∙ ap (λ b. effect_step w c ask (not b)) s.1))
 
   pub obeys_set : set_decision k.transactions.running c start v name x r ≡ Set → (k' : Kept) → Drafted k k' c v.0 0 (with_property name x (seen_object c start r)) → Obeys w k' (entry c (event.Write ask) (answer.Wrote wrote.Done))
   obeys_set d k' drafted =
-      let s = sets v (is_dead (object_at (view_of w p) (Vertex v))) (rival_at w p (Vertex v)) (is_value x (property_of (object_at (view_of w p) (Vertex v)) name)) (sym in_world ∙ d) in
+      let s = sets v (is_dead (object_at (view_of w p) (Vertex v))) (rival_at w p (Vertex v)) (same_value (value_at name (object_at (view_of w p) (Vertex v))) (kept x)) (sym in_world ∙ d) in
       let effective : changes (op_of w ask) (view_of w p) ≡ true = ap not s.1 in
-      let ordered : InOrder (written_world w c (op_of w ask)) = write_keeps_order w c p ask keeps.ordered open_p s.0 effective in
-      obeys_step k' w (written_world w c (op_of w ask)) c (event.Write ask) (answer.Wrote wrote.Done)
-      (set_step ∙ ap (allowed_write_step w p c ask) s.0 ∙ ap (effect_step w c (op_of w ask)) effective) refl
-      (keeps_drafted k k' w c p (op_of w ask) v.0 (with_property name x (seen_object c start r)) keeps open_p refl s.2 ordered (ap (with_property name x) seen_is) drafted)
+      let ordered : InOrder (written_world w c ask) = write_keeps_order w c p ask keeps.ordered open_p s.0 effective in
+      obeys_step k' w (written_world w c ask) c (event.Write ask) (answer.Wrote wrote.Done)
+      (set_step ∙ ap (allowed_write_step w p c ask) s.0 ∙ ap (effect_step w c ask) effective) refl
+      (keeps_drafted k k' w c p ask v.0 (with_property name x (seen_object c start r)) keeps open_p refl s.2 ordered (ap (with_property name x) seen_is) drafted)
 
 -- a new vertex
 module _ (k : Kept) (w : World) (c start : ℕ) (keeps : Keeps k w) (p : Txn) (open_p : txn_of w c ≡ Some p) where
@@ -285,10 +288,10 @@ module _ (k : Kept) (w : World) (c start : ℕ) (keeps : Keeps k w) (p : Txn) (o
       Obeys w k' (entry c (event.Write CreateVertex) (answer.Wrote (wrote.Vertex new_vertex)))
   obeys_create room k' drafted =
       let free : write_refusal w p CreateVertex ≡ None = free_of_refusal room in
-      let ordered : InOrder (written_world w c (op_of w CreateVertex)) = write_keeps_order w c p CreateVertex keeps.ordered open_p free refl in
-      obeys_step k' w (written_world w c (op_of w CreateVertex)) c (event.Write CreateVertex) (answer.Wrote (wrote.Vertex new_vertex))
-      (create_step ∙ ap (allowed_write_step w p c CreateVertex) free ∙ ap (λ (y : VertexId). record { reply = answer.Wrote (wrote.Vertex y); world = written_world w c (op_of w CreateVertex) }) next_is) refl
-      (keeps_drafted k k' w c p (op_of w CreateVertex) (k.first + length k.rows) (object.Vertex empty_vertex) keeps open_p (ap Vertex next_is) (ap (λ (y : VertexId). rival_at w p (Vertex y)) (sym next_is) ∙ no_rival) ordered refl drafted)
+      let ordered : InOrder (written_world w c CreateVertex) = write_keeps_order w c p CreateVertex keeps.ordered open_p free refl in
+      obeys_step k' w (written_world w c CreateVertex) c (event.Write CreateVertex) (answer.Wrote (wrote.Vertex new_vertex))
+      (create_step ∙ ap (allowed_write_step w p c CreateVertex) free ∙ ap (λ (y : VertexId). record { reply = answer.Wrote (wrote.Vertex y); world = written_world w c CreateVertex }) next_is) refl
+      (keeps_drafted k k' w c p CreateVertex (k.first + length k.rows) (object.Vertex empty_vertex) keeps open_p (ap Vertex next_is) (ap (λ (y : VertexId). rival_at w p (Vertex y)) (sym next_is) ∙ no_rival) ordered refl drafted)
 
 -- the end of a transaction
 pub obeys_commit : (k : Kept) (w : World) (c start number : ℕ) → Keeps k w → start_of k.transactions.running c ≡ Some start →

@@ -7,7 +7,8 @@ use Rattle.graph_value.specs.declared.id.Oid.{Oid}
 use Rattle.graph_record.specs.declared.object.Object.{Object}
 use Rattle.graph_record.specs.declared.object.Object.TheVariants.{Dead}
 use Rattle.graph_record.specs.Graph.{Graph, object_at}
-use Rattle.world_model.specs.Op.{Op, apply_all, are_touching}
+use Rattle.undo_delta.specs.declared.op.Op.{Op}
+use Rattle.world_model.specs.Op.{apply_all, are_touching}
 use Rattle.world_model.specs.Change.{object_after_all}
 use Rattle.world_model.specs.World.{Commit, ops_of, before, stamps_ascend, newest_touch, greatest}
 use Rattle.world_model.proofs.Objects.{object_at-apply_all, object_after_all-append, untouched}

@@ -15,7 +15,7 @@ use Rattle.world_model.specs.declared.answer.Answer.{Answer}
 use Rattle.world_model.specs.declared.answer.Answer.TheVariants.{Wrote, Refused}
 use Rattle.world_model.specs.declared.answer.Wrote.TheVariants as wrote
 use Rattle.world_model.specs.declared.answer.Refused.TheVariants.{NoMemory}
-use Rattle.world_model.specs.Change.{with_property}
+use Rattle.undo_delta.specs.Apply.{with_property}
 use Rattle.world_model.specs.World.{World}
 use Rattle.world_model.specs.History.{Entry}
 use Rattle.front_core.specs.declared.decision.Decision.TheVariants.{Set}
@@ -27,7 +27,8 @@ use Rattle.front_core.specs.Drafted.{drafted}
 use Rattle.front_core.specs.Keeps.{Kept, Keeps, row_at}
 use Rattle.front_core.specs.Obeys.{Obeys}
 use Rattle.graph_record.specs.Graph.{is_dead}
-use Rattle.world_model.specs.Op.{property_of, is_value}
+use Rattle.graph_value.specs.Value.{same_value}
+use Rattle.undo_delta.specs.Change.{value_at, kept}
 use Rattle.front_core.proofs.Steps.{sets, open_txn, obeys_create, obeys_create_no_memory, obeys_set, obeys_set_no_memory}
 use Rattle.front_core.proofs.Drafting.{drafted_new, drafted_set, placed_row, free_row}
 
@@ -86,5 +87,5 @@ pub free_set : (k : Kept) (w : World) (c start at : ℕ) (v : VertexId) (name : 
     set_decision k.transactions.running c start v name x (row_at k (Vertex v)) ≡ Set → at < length k.rows → v.0 ≡ k.first + at → row ≡ get_or k.rows at row → IsFree c row.draft
 free_set k w c start at v name x row keeps decided below place here =
     let r : Versions = row_at k (Vertex v) in
-    let s = sets v (is_dead (seen_object c start r)) (row_rival k.transactions.running c start r) (is_value x (property_of (seen_object c start r) name)) decided in
+    let s = sets v (is_dead (seen_object c start r)) (row_rival k.transactions.running c start r) (same_value (value_at name (seen_object c start r)) (kept x)) decided in
     subst (λ (q : Versions). IsFree c q.draft) (sym (placed_row k.first k.rows at v.0 row below place here)) (free_row k w c start (Vertex v) keeps s.2)

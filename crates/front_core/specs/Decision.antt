@@ -1,5 +1,6 @@
 -- What the core finds of a write before it changes anything.
 use Rattle.std.specs.Prelude.{ℕ, List, Option, Some, None, Bool, ◌≡◌, nat_eq, option_map, if◌then◌else◌}
+use Rattle.graph_value.specs.Value.{same_value}
 use Rattle.graph_value.specs.declared.value.Value.{Value}
 use Rattle.graph_value.specs.declared.id.VertexId.{VertexId}
 use Rattle.graph_value.specs.declared.id.Oid.TheVariants.{Vertex}
@@ -9,7 +10,7 @@ use Rattle.txn_manager.specs.declared.rivals.Rival.{Rival}
 use Rattle.txn_manager.specs.RunningList.{start_of}
 use Rattle.txn_manager.specs.Conflict.{rival_of}
 use Rattle.world_model.specs.declared.answer.Refused.TheVariants.{Missing, Conflict}
-use Rattle.world_model.specs.Op.{property_of, is_value}
+use Rattle.undo_delta.specs.Change.{value_at, kept}
 use Rattle.front_core.specs.declared.version.Draft.{Draft}
 use Rattle.front_core.specs.declared.decision.Decision.{Decision}
 use Rattle.front_core.specs.declared.decision.Decision.TheVariants.{Refuse, Unchanged, Set}
@@ -44,4 +45,4 @@ unless_rival v None unchanged = effect unchanged
 abbrev pub set_decision : List Running → ℕ → ℕ → VertexId → List ℕ → Value → Versions → Decision
 set_decision running caller start v name x r =
     if is_dead (seen_object caller start r) then Refuse (Missing (Vertex v))
-    else unless_rival v (row_rival running caller start r) (is_value x (property_of (seen_object caller start r) name))
+    else unless_rival v (row_rival running caller start r) (same_value (value_at name (seen_object caller start r)) (kept x))

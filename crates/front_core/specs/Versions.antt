@@ -3,7 +3,7 @@ use Rattle.std.specs.Prelude.{ℕ, List, [], ◌∷◌, ◌++◌, Option, Some, 
 use Rattle.graph_record.specs.declared.object.Object.{Object}
 use Rattle.graph_record.specs.declared.object.Object.TheVariants.{Dead}
 use Rattle.graph_value.specs.declared.value.Value.{Value}
-use Rattle.world_model.specs.Change.{with_property}
+use Rattle.undo_delta.specs.Apply.{with_property}
 use Rattle.front_core.specs.declared.version.Version.{Version}
 use Rattle.front_core.specs.declared.version.Draft.{Draft}
 

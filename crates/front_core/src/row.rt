@@ -1,7 +1,7 @@
 ghost use Rattle.std.specs.Prelude.{◌≡◌, ◌++◌, ◌∷◌, ◌-◌, ◌<◌, ◌&&◌, [], Some, IsTrue, nat_le, nat_lt, length, IsNone, IsSome, OnOk, OnErr, option_map, unwrap_or, vec_len, vec_capacity};
 ghost use Rattle.std.specs.List.{list_all};
 ghost use Rattle.std.specs.Option.{option_copied};
-ghost use Rattle.world_model.specs.Change.{with_property};
+ghost use Rattle.undo_delta.specs.Apply.{with_property};
 ghost use Rattle.front_core.specs.Versions.{newest_stamp, object_below, seen_object, committed_as, draft_with};
 ghost use Rattle.front_core.specs.Commits.{commit_listed};
 
@@ -23,8 +23,12 @@ pub(crate) struct Row {
 impl Model for Row {
     ghost use Rattle.std.specs.Prelude.{◌<◌, vec_len, vec_capacity, IsSome};
     ghost use Rattle.front_core.specs.Versions.{Versions};
+    ghost use Rattle.graph_value.specs.contracts.value.Value as property_value;
+    ghost use Rattle.std.specs.Coded.{codes};
 
     ghost Value = { Versions };
+
+    ghost coded = { Prim.hlevel (codes, property_value.the_row.coded) };
 
     ghost view = { λ r. record { committed = r.committed.items; draft = r.draft } };
 
@@ -139,15 +143,22 @@ fn newest_below(versions: &[Version], ts: u64) -> Option<&Object>
     None
 }
 
-/// Gives the name this value among the properties of the object, if it is alive.
+/// Gives the name this value among the properties of the object, if it is alive. A value that no object keeps takes the
+/// property away.
 pub(crate) fn set_property(object: &mut Object, name: Name, value: Value) -> Result<(), NoMemory>
     ensures ok { OnOk result (object.new ≡ with_property name value object.old) }
     ensures err { OnErr result (object.new ≡ object.old) }
 {
     match object {
         Object::Dead => Ok(()),
-        Object::Vertex(vertex) => vertex.props.set(name, value),
-        Object::Edge(edge) => edge.props.set(name, value),
+        Object::Vertex(vertex) => {
+            vertex.props.set(name, value)?;
+            Ok(())
+        }
+        Object::Edge(edge) => {
+            edge.props.set(name, value)?;
+            Ok(())
+        }
     }
 }
 

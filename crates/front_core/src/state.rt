@@ -27,8 +27,12 @@ pub struct Core {
 
 impl Model for Core {
     ghost use Rattle.front_core.specs.Keeps.{Kept, KeepsSome};
+    ghost use Rattle.graph_value.specs.contracts.value.Value as property_value;
+    ghost use Rattle.std.specs.Coded.{codes};
 
     ghost Value = { Kept };
+
+    ghost coded = { Prim.hlevel (codes, property_value.the_row.coded) };
 
     ghost view = { λ c. record { transactions = c.active; first = c.first; rows = c.rows.items; edges = c.edges; writes = c.writes } };
 

@@ -2,8 +2,9 @@ ghost use Rattle.std.specs.Prelude.{◌≡◌, ◌∷◌, ◌++◌, ◌+◌, ◌
 ghost use Rattle.std.specs.Option.{option_copied};
 ghost use Rattle.graph_value.specs.declared.id.Oid.TheVariants as oid;
 ghost use Rattle.graph_record.specs.Record.{empty_vertex};
-ghost use Rattle.world_model.specs.Op.{property_of, is_value};
-ghost use Rattle.world_model.specs.Change.{with_property};
+ghost use Rattle.graph_value.specs.Value.{same_value};
+ghost use Rattle.undo_delta.specs.Apply.{with_property};
+ghost use Rattle.undo_delta.specs.Change.{value_at, value_or_null, kept};
 ghost use Rattle.front_core.specs.Versions.{no_versions, seen_object, is_draft_of};
 ghost use Rattle.front_core.specs.Writes.{vertices_of};
 ghost use Rattle.txn_manager.specs.RunningList.{start_of};
@@ -21,9 +22,10 @@ use crate::state::Core;
 use crate::version::Draft;
 use crate::writes::Writes;
 use graph_record::{Object, VertexRecord};
-use graph_value::{EdgeId, Name, Oid, Value, VertexId};
+use graph_value::{Name, Oid, Value, VertexId};
 use std::alloc::Global;
 use txn_manager::{Rival, rival};
+use undo_delta::is_kept_value;
 use world_model::{Answer, Ask, Event, Refused, Wrote};
 
 /// The number at which no id is left.
@@ -181,18 +183,27 @@ fn is_absent(object: Option<&Object>) -> bool
     matches!(object, None | Some(Object::Dead))
 }
 
-/// Whether the object has this value under the name.
+/// Whether the object has under the name what a property keeps of the value: null stands for what none keeps, and for
+/// a property that isn't there.
 fn has_value(object: Option<&Object>, name: &Name, value: &Value) -> bool
-    ensures { result ≡ is_value value.now (property_of (unwrap_or (option_copied object.entry) Object.Dead) name.now) }
+    ensures { result ≡ same_value (value_at name.now (unwrap_or (option_copied object.entry) Object.Dead)) (kept value.now) }
 {
     let found = match object {
         Some(Object::Vertex(vertex)) => vertex.props.get(name.as_str()),
         Some(Object::Edge(edge)) => edge.props.get(name.as_str()),
         _ => None,
     };
+    is_kept(found, value)
+}
+
+/// Whether this is what a property keeps of the value; none stands for null.
+fn is_kept(found: Option<&Value>, value: &Value) -> bool
+    ensures { result ≡ same_value (value_or_null (option_copied found.entry)) (kept value.now) }
+{
+    let null = Value::Null;
     match found {
-        Some(found) => found.same(value),
-        None => false,
+        Some(found) => is_kept_value(found, value),
+        None => is_kept_value(&null, value),
     }
 }
 

@@ -1,3 +1,6 @@
+pub mod Edges
+pub mod Graphs
 pub mod Place
 pub mod Printed
+pub mod Stored
 mod Worked

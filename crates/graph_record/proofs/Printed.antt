@@ -14,10 +14,10 @@ use Rattle.graph_value.specs.declared.id.EdgeId.{EdgeId}
 use Rattle.graph_value.specs.declared.id.VertexId.{VertexId}
 use Rattle.graph_value.specs.declared.id.Oid.{Oid}
 use Rattle.graph_value.specs.declared.id.Oid.TheVariants as oid
-use Rattle.graph_value.specs.declared.value.Value.{Value}
-use Rattle.graph_value.specs.declared.value.Value.TheVariants.{Int}
+use Rattle.graph_value.specs.declared.value.Value.{Value, out-Value}
+use Rattle.graph_value.specs.declared.value.Value.TheOpen.{Value-F}
 use Rattle.graph_record.specs.Ascending.{IsAscendingProperties}
-use Rattle.graph_record.specs.Json.{value_data, id_data, property_members, object_data, vertex_data, edge_data}
+use Rattle.graph_record.specs.Json.{value_data, simple_data, simple_level, value_level, id_data, property_members, object_data, vertex_data, edge_data}
 use Rattle.graph_record.specs.declared.object.VertexRecord.{VertexRecord}
 use Rattle.graph_record.specs.declared.object.EdgeRecord.{EdgeRecord}
 use Rattle.graph_record.specs.declared.object.Object.{Object}
@@ -52,8 +52,30 @@ integer_no_float : (n : ℤ) → is_float (of_integer n) ≡ false
 integer_no_float (pos n) = refl
 integer_no_float (negsuc n) = refl
 
+simple_no_float : {A : Type 0} (v : Value-F A) → has_float (simple_level v) ≡ false
+simple_no_float Value-F.Null = refl
+simple_no_float (Value-F.Bool b) = refl
+simple_no_float (Value-F.Int n) = integer_no_float n
+simple_no_float (Value-F.Text t) = refl
+simple_no_float (Value-F.List items) = refl
+simple_no_float (Value-F.Vertex id) = refl
+simple_no_float (Value-F.Edge id) = refl
+
+elements_no_float : (vs : List Value) → items_have_float (items_of (map simple_data vs)) ≡ false
+elements_no_float [] = refl
+elements_no_float (v ∷ vs) = rw (simple_no_float (out-Value v)) (elements_no_float vs)
+
+level_no_float : (v : Value-F Value) → has_float (value_level v) ≡ false
+level_no_float Value-F.Null = refl
+level_no_float (Value-F.Bool b) = refl
+level_no_float (Value-F.Int n) = integer_no_float n
+level_no_float (Value-F.Text t) = refl
+level_no_float (Value-F.List items) = elements_no_float items
+level_no_float (Value-F.Vertex id) = refl
+level_no_float (Value-F.Edge id) = refl
+
 value_no_float : (v : Value) → has_float (value_data v) ≡ false
-value_no_float (Int n) = integer_no_float n
+value_no_float v = level_no_float (out-Value v)
 
 ids_no_float : (ids : List EdgeId) → items_have_float (items_of (map id_data ids)) ≡ false
 ids_no_float [] = refl

@@ -8,6 +8,7 @@ use Rattle.graph_value.specs.declared.id.VertexId.{VertexId}
 use Rattle.graph_value.specs.declared.id.EdgeId.{EdgeId}
 use Rattle.graph_value.specs.declared.id.Oid.{Oid}
 use Rattle.graph_value.specs.declared.id.Oid.TheVariants as oid
+pub use Rattle.graph_record.specs.Ascending.{edge_cmp}
 use Rattle.graph_record.specs.declared.object.VertexRecord.{VertexRecord}
 use Rattle.graph_record.specs.declared.object.EdgeRecord.{EdgeRecord}
 use Rattle.graph_record.specs.declared.object.Object.{Object}
@@ -21,12 +22,9 @@ pub record Graph : Type 0 where
 abbrev pub empty_graph : Graph
 empty_graph = record { vertices = []; edges = [] }
 
--- ids are ordered by their numbers
+-- vertices are ordered by their numbers, as edges are
 abbrev pub vertex_cmp : VertexId → VertexId → Ordering
 vertex_cmp a b = nat_cmp a.0 b.0
-
-abbrev pub edge_cmp : EdgeId → EdgeId → Ordering
-edge_cmp a b = nat_cmp a.0 b.0
 
 abbrev pub vertex_object : Option VertexRecord → Object
 vertex_object None = Dead

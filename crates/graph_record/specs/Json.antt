@@ -1,6 +1,6 @@
 -- The printed text of an object: JSON with no space, the keys of each object in ascending order.
 use Rattle.std.specs.Prelude.{ℕ, List, [], ◌∷◌, map, codes}
-use Rattle.serde_json.specs.Data.{Data, null, number, string, array, object, unsigned, Members, no_members, member}
+use Rattle.serde_json.specs.Data.{Data, null, boolean, number, string, array, object, unsigned, Members, no_members, member}
 use Rattle.serde_json.specs.Find.{of_integer}
 use Rattle.serde_json.specs.View.{items_of}
 use Rattle.serde_json.specs.Written.{compact_text}
@@ -8,15 +8,30 @@ use Rattle.graph_value.specs.declared.id.VertexId.{VertexId}
 use Rattle.graph_value.specs.declared.id.EdgeId.{EdgeId}
 use Rattle.graph_value.specs.declared.id.Oid.{Oid}
 use Rattle.graph_value.specs.declared.id.Oid.TheVariants as oid
-use Rattle.graph_value.specs.declared.value.Value.{Value}
-use Rattle.graph_value.specs.declared.value.Value.TheVariants.{Int}
+use Rattle.graph_value.specs.declared.value.Value.{Value, out-Value}
+use Rattle.graph_value.specs.declared.value.Value.TheOpen.{Value-F}
 use Rattle.graph_record.specs.declared.object.VertexRecord.{VertexRecord}
 use Rattle.graph_record.specs.declared.object.EdgeRecord.{EdgeRecord}
 use Rattle.graph_record.specs.declared.object.Object.{Object}
 use Rattle.graph_record.specs.declared.object.Object.TheVariants.{Vertex, Edge}
 
+-- a truth value, a number or a text
+abbrev pub simple_level : {A : Type 0} → Value-F A → Data
+simple_level (Value-F.Bool b) = boolean b
+simple_level (Value-F.Int n) = number (of_integer n)
+simple_level (Value-F.Text t) = string t
+simple_level v = null
+
+abbrev pub simple_data : Value → Data
+simple_data v = simple_level (out-Value v)
+
+-- or a list of these; an object keeps no other value, and `null` stands only so that each case has a text
+abbrev pub value_level : Value-F Value → Data
+value_level (Value-F.List items) = array (items_of (map simple_data items))
+value_level v = simple_level v
+
 abbrev pub value_data : Value → Data
-value_data (Int n) = number (of_integer n)
+value_data v = value_level (out-Value v)
 
 abbrev pub id_data : EdgeId → Data
 id_data id = number (unsigned id.0)

@@ -1,8 +1,9 @@
 //! The printed text of an object.
-ghost use Rattle.std.specs.Prelude.{◌≡◌, IfOk};
-ghost use Rattle.serde_json.specs.View.{view};
+ghost use Rattle.std.specs.Prelude.{◌≡◌, IfOk, map};
+ghost use Rattle.serde_json.specs.Data.{array};
+ghost use Rattle.serde_json.specs.View.{view, items_of};
 ghost use Rattle.graph_record.specs.Ascending.{IsAscendingProperties};
-ghost use Rattle.graph_record.specs.Json.{value_data, ids_data, names_data, properties_data, vertex_data, edge_data, object_data, object_text, IsOfKind};
+ghost use Rattle.graph_record.specs.Json.{value_data, simple_data, ids_data, names_data, properties_data, vertex_data, edge_data, object_data, object_text, IsOfKind};
 
 use crate::{EdgeRecord, Object, VertexRecord};
 use graph_value::{EdgeId, Name, NoMemory, Oid, Text, Value, VertexId};
@@ -77,16 +78,43 @@ fn properties_value(alloc: Global, properties: &[(Name, Value)]) -> Result<Json,
 {
     let mut map = Map::new(alloc);
     for (name, value) in properties {
-        serde_json::put(&mut map, alloc, name.as_str(), property_value(value))?;
+        serde_json::put(
+            &mut map,
+            alloc,
+            name.as_str(),
+            property_value(alloc, value)?,
+        )?;
     }
     Ok(Json::Object(map))
 }
 
-fn property_value(value: &Value) -> Json
-    ensures { view result ≡ value_data value.now }
+fn property_value(alloc: Global, value: &Value) -> Result<Json, NoMemory>
+    ensures { IfOk result (λ v. view v ≡ value_data value.now) }
 {
     match value {
-        Value::Int(n) => Json::from(*n),
+        Value::List(items) => list_value(alloc, items.as_slice()),
+        _ => simple_value(alloc, value),
+    }
+}
+
+fn list_value(alloc: Global, items: &[Value]) -> Result<Json, NoMemory>
+    ensures { IfOk result (λ v. view v ≡ array (items_of (map simple_data items.now))) }
+{
+    let mut list = Vec::new(alloc);
+    for item in items {
+        serde_json::push(&mut list, simple_value(alloc, item)?)?;
+    }
+    Ok(Json::Array(list))
+}
+
+fn simple_value(alloc: Global, value: &Value) -> Result<Json, NoMemory>
+    ensures { IfOk result (λ v. view v ≡ simple_data value.now) }
+{
+    match value {
+        Value::Bool(b) => Ok(Json::Bool(*b)),
+        Value::Int(n) => Ok(Json::from(*n)),
+        Value::Text(text) => Json::try_from_str(alloc, text.as_str()),
+        _ => Ok(Json::Null),
     }
 }
 

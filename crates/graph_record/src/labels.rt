@@ -1,5 +1,8 @@
-ghost use Rattle.std.specs.Prelude.{◌≡◌, [], length, IfOk};
+ghost use Rattle.std.specs.Prelude.{◌≡◌, [], length, not, IfOk, IfErr, OnOk, OnErr, IsOk, IsTrue};
+ghost use Rattle.graph_value.specs.Name.{name_cmp};
 ghost use Rattle.graph_record.specs.Ascending.{IsAscendingNames};
+ghost use Rattle.graph_record.specs.Edits.{has, added, removed};
+ghost use Rattle.graph_record.specs.Place.{IsAt, IsGapFor, itself};
 
 use crate::NoMemory;
 use graph_value::Name;
@@ -48,6 +51,46 @@ impl Labels {
         self.items.as_slice()
     }
 
+    /// Whether the label is there.
+    pub fn contains(&self, name: &str) -> bool
+        ensures { result ≡ has name_cmp name.now self.now }
+    {
+        self.place(name).is_ok()
+    }
+
+    /// Puts the label in its place and says whether it is new. Only a new label can want for memory,
+    /// and then nothing changes.
+    pub fn add(&mut self, name: Name) -> Result<bool, NoMemory>
+        ensures ok { OnOk result (self.new ≡ added name_cmp name self.old) }
+        ensures is_new { IfOk result (λ is_new. is_new ≡ not (has name_cmp name self.old)) }
+        ensures ascending { IsAscendingNames self.old }
+        ensures err { OnErr result (self.new ≡ self.old) }
+        ensures there { IsTrue (has name_cmp name self.old) → IsOk result }
+    {
+        match self.place(name.as_str()) {
+            Ok(_) => Ok(false),
+            Err(at) => {
+                self.items.insert(at, name)?;
+                Ok(true)
+            }
+        }
+    }
+
+    /// Takes the label away and says whether it was there. Takes no memory.
+    pub fn remove(&mut self, name: &str) -> bool
+        ensures list { self.new ≡ removed name_cmp name.now self.old }
+        ensures ascending { IsAscendingNames self.old }
+        ensures was_there { result ≡ has name_cmp name.now self.old }
+    {
+        match self.place(name) {
+            Ok(at) => {
+                self.items.remove(at);
+                true
+            }
+            Err(_) => false,
+        }
+    }
+
     /// The same labels, in memory of their own.
     pub fn copy(&self, alloc: Global) -> Result<Labels, NoMemory>
         ensures { IfOk result (λ l. l ≡ self.now) }
@@ -57,5 +100,14 @@ impl Labels {
             items.push(label.copy(alloc)?)?;
         }
         Ok(Labels { items })
+    }
+
+    // Where the label stands, or where it would go.
+    fn place(&self, name: &str) -> Result<usize, usize>
+        ensures found { IfOk result (IsAt name_cmp itself name.now self.now) }
+        ensures absent { IfErr result (IsGapFor name_cmp itself name.now self.now) }
+    {
+        self.items
+            .binary_search_by(|known| known.as_str().cmp(name))
     }
 }

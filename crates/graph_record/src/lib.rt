@@ -2,6 +2,7 @@
 #![tactic(auto)]
 
 mod edge_ids;
+mod graph;
 mod json;
 mod labels;
 mod object;
@@ -10,6 +11,7 @@ mod properties;
 mod tests;
 
 pub use edge_ids::EdgeIds;
+pub use graph::Graph;
 pub use json::object_json;
 pub use labels::Labels;
 pub use object::{EdgeRecord, Object, VertexRecord};

@@ -16,8 +16,9 @@ use Rattle.world_model.specs.declared.event.Event.{Event}
 use Rattle.world_model.specs.declared.event.Event.TheVariants.{Begin, Read, Write, Commit}
 use Rattle.world_model.specs.declared.event.Ask.TheVariants.{CreateVertex}
 use Rattle.world_model.specs.declared.event.When.TheVariants.{Own}
+use Rattle.graph_value.proofs.Levels.{int_level}
 use Rattle.graph_shell.specs.declared.request.Request.{Request}
-use Rattle.graph_shell.specs.Reply.{oid_text}
+use Rattle.graph_value.specs.Id.{oid_text}
 use Rattle.graph_shell.specs.Request.{words_of, value_of, is_number, number_below, negative_of, nonnegative_of, integer_of, is_name, name_of, oid_of, plain_event, read_event, set_ask, set_event, event_of, request_from_words}
 use Rattle.graph_shell.specs.Spelling.{event_words, IsSpelledOid, IsSpelledEvent, HasSpelling, ReadIsSpelling}
 use Rattle.graph_shell.proofs.Numbers.{own, number_digits}
@@ -157,8 +158,8 @@ read_reads verb object when event v w h =
     subst (IsSpeltBy (verb ∷ object ∷ when ∷ [])) (same_Some _ _ first.2) (read.0, words)
 
 set_by : (verb object property integer : List ℕ) (x : Oid) (name : List ℕ) (n : ℤ) → verb ≡ codes "set" → IsSpelledOid x × (object ≡ oid_text x) → (is_name name ≡ true) × (property ≡ name) → FitsSigned w64 n × (integer ≡ signed_decimal n) → IsSpeltBy (verb ∷ object ∷ property ∷ integer ∷ []) (Write (set_ask x name n))
-set_by verb object property integer (oid.Vertex id) name n v o p i = ((o.0, p.0, i.0), rw (v, o.1, p.1, i.1) refl)
-set_by verb object property integer (oid.Edge id) name n v o p i = ((o.0, p.0, i.0), rw (v, o.1, p.1, i.1) refl)
+set_by verb object property integer (oid.Vertex id) name n v o p i = (rw (int_level n) (o.0, p.0, i.0), rw (v, o.1, p.1, i.1, int_level n) refl)
+set_by verb object property integer (oid.Edge id) name n v o p i = (rw (int_level n) (o.0, p.0, i.0), rw (v, o.1, p.1, i.1, int_level n) refl)
 
 set_reads : (verb object property integer : List ℕ) (event : Event) → verb ≡ codes "set" → set_event object property integer ≡ Some event → IsSpeltBy (verb ∷ object ∷ property ∷ integer ∷ []) event
 unfolding set_event

@@ -8,14 +8,18 @@ use Rattle.std.proofs.lemmas.Int.{ints}
 use Rattle.std.proofs.lemmas.Fmt.{decimal_digit, decimal_nonempty, first_decimal, digits_decimal, digits_value-decimal}
 use Rattle.graph_value.specs.declared.id.Oid.{Oid}
 use Rattle.graph_value.specs.declared.id.Oid.TheVariants as oid
-use Rattle.graph_value.specs.declared.value.Value.TheVariants.{Int}
 use Rattle.world_model.specs.declared.event.Ask.TheVariants.{CreateVertex, SetVertexProp, SetEdgeProp}
 use Rattle.world_model.specs.declared.event.Event.{Event}
 use Rattle.world_model.specs.declared.event.Event.TheVariants.{Begin, Read, Write, Commit}
 use Rattle.world_model.specs.declared.event.When.TheVariants.{Own}
-use Rattle.graph_shell.specs.Reply.{oid_text}
+use Rattle.graph_value.specs.Id.{oid_text}
 use Rattle.graph_shell.specs.Request.{words_of, is_number, number_below, negative_of, nonnegative_of, integer_of, begins_name, continues_name, is_name, name_of, oid_of, plain_event, read_event, set_event, event_of, request_from_words}
-use Rattle.graph_shell.specs.Spelling.{event_words, IsSpelledOid, IsSpelledEvent, SpellingIsRead}
+use Rattle.graph_value.specs.declared.value.Value.{Value, out-Value, roll-Value, roll-out-Value}
+use Rattle.graph_value.specs.declared.value.Value.TheOpen.{Value-F}
+use Rattle.graph_value.specs.declared.id.VertexId.{VertexId}
+use Rattle.graph_value.specs.declared.id.EdgeId.{EdgeId}
+use Rattle.graph_shell.specs.Spelling.{set_level, IsSpelledLevel, event_words, IsSpelledOid, IsSpelledEvent, SpellingIsRead}
+use Rattle.graph_value.proofs.Levels.{int_rolled}
 use Rattle.graph_shell.proofs.Numbers.{own, number_below_at, integer_plain}
 
 -- WORDS
@@ -128,21 +132,50 @@ oid_no_space (oid.Edge id) h = decimal_no_space id.0 (omega arith)
 
 -- EVENTS
 
+vertex_set_again : (id : VertexId) (name : List ℕ) (value : Value-F Value) → IsSpelledLevel (oid.Vertex id) name value → event_of (set_level (oid.Vertex id) name value) ≡ Some (Write (SetVertexProp id name (roll-Value value)))
+unfolding event_of plain_event read_event set_event
+vertex_set_again id name (Value-F.Int n) h = rw (oid_again (oid.Vertex id) h.0, integer_again n h.2, name_again name h.1, int_rolled n) refl
+vertex_set_again id name Value-F.Null h = elim h [ ]
+vertex_set_again id name (Value-F.Bool b) h = elim h [ ]
+vertex_set_again id name (Value-F.Text t) h = elim h [ ]
+vertex_set_again id name (Value-F.List vs) h = elim h [ ]
+vertex_set_again id name (Value-F.Vertex v) h = elim h [ ]
+vertex_set_again id name (Value-F.Edge e) h = elim h [ ]
+
+edge_set_again : (id : EdgeId) (name : List ℕ) (value : Value-F Value) → IsSpelledLevel (oid.Edge id) name value → event_of (set_level (oid.Edge id) name value) ≡ Some (Write (SetEdgeProp id name (roll-Value value)))
+unfolding event_of plain_event read_event set_event
+edge_set_again id name (Value-F.Int n) h = rw (oid_again (oid.Edge id) h.0, integer_again n h.2, name_again name h.1, int_rolled n) refl
+edge_set_again id name Value-F.Null h = elim h [ ]
+edge_set_again id name (Value-F.Bool b) h = elim h [ ]
+edge_set_again id name (Value-F.Text t) h = elim h [ ]
+edge_set_again id name (Value-F.List vs) h = elim h [ ]
+edge_set_again id name (Value-F.Vertex v) h = elim h [ ]
+edge_set_again id name (Value-F.Edge e) h = elim h [ ]
+
+set_no_space : (x : Oid) (name : List ℕ) (value : Value-F Value) → IsSpelledLevel x name value → list_all no_space (set_level x name value) ≡ true
+set_no_space x name (Value-F.Int n) h = rw (oid_no_space x h.0, name_no_space name h.1, integer_no_space n h.2) refl
+set_no_space x name Value-F.Null h = elim h [ ]
+set_no_space x name (Value-F.Bool b) h = elim h [ ]
+set_no_space x name (Value-F.Text t) h = elim h [ ]
+set_no_space x name (Value-F.List vs) h = elim h [ ]
+set_no_space x name (Value-F.Vertex v) h = elim h [ ]
+set_no_space x name (Value-F.Edge e) h = elim h [ ]
+
 event_again : (event : Event) → IsSpelledEvent event → event_of (event_words event) ≡ Some event
 unfolding event_of plain_event read_event set_event
 event_again Begin h = refl
 event_again (Read x Own) h = rw (oid_again x h) refl
 event_again (Write CreateVertex) h = refl
-event_again (Write (SetVertexProp id name (Int n))) h = rw (oid_again (oid.Vertex id) h.0, integer_again n h.2, name_again name h.1) refl
-event_again (Write (SetEdgeProp id name (Int n))) h = rw (oid_again (oid.Edge id) h.0, integer_again n h.2, name_again name h.1) refl
+event_again (Write (SetVertexProp id name value)) h = vertex_set_again id name (out-Value value) h ∙ ap (λ v. Some (Write (SetVertexProp id name v))) (roll-out-Value value)
+event_again (Write (SetEdgeProp id name value)) h = edge_set_again id name (out-Value value) h ∙ ap (λ v. Some (Write (SetEdgeProp id name v))) (roll-out-Value value)
 event_again Commit h = refl
 
 event_no_space : (event : Event) → IsSpelledEvent event → list_all no_space (event_words event) ≡ true
 event_no_space Begin h = refl
 event_no_space (Read x Own) h = rw (oid_no_space x h) refl
 event_no_space (Write CreateVertex) h = refl
-event_no_space (Write (SetVertexProp id name (Int n))) h = rw (oid_no_space (oid.Vertex id) h.0, name_no_space name h.1, integer_no_space n h.2) refl
-event_no_space (Write (SetEdgeProp id name (Int n))) h = rw (oid_no_space (oid.Edge id) h.0, name_no_space name h.1, integer_no_space n h.2) refl
+event_no_space (Write (SetVertexProp id name value)) h = set_no_space (oid.Vertex id) name (out-Value value) h
+event_no_space (Write (SetEdgeProp id name value)) h = set_no_space (oid.Edge id) name (out-Value value) h
 event_no_space Commit h = refl
 
 pub spelling_is_read : SpellingIsRead

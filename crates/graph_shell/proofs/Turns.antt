@@ -1,7 +1,7 @@
 -- Turn after turn, the text that was written is the one that answers the lines that were read.
-use Rattle.std.proofs.Common.{◌≡◌, ◌≢◌, ◌≤◌, ◌<◌, ℕ, List, [], ◌∷◌, ◌++◌, Bool, true, false, cond, length, nat_lt, refl, sym, ap, subst, ◌∙◌, arith}
+use Rattle.std.proofs.Common.{◌≡◌, ◌≢◌, ◌≤◌, ◌<◌, ℕ, List, [], ◌∷◌, ◌++◌, Bool, true, false, cond, length, take, drop, nat_lt, refl, sym, ap, subst, ◌∙◌, arith}
 use Rattle.std.proofs.lemmas.Bool.Decides.{nat_tests}
-use Rattle.std.proofs.lemmas.List.{append_assoc, append-nil}
+use Rattle.std.proofs.lemmas.List.{append_assoc, append-nil, take-append-drop}
 use Rattle.std.specs.Prelude.{slice_range, Err}
 use Rattle.world_model.specs.World.{World, start_world}
 use Rattle.world_model.specs.History.{Entry, run}
@@ -14,7 +14,7 @@ use Rattle.graph_shell.specs.Reply.{bad_line}
 use Rattle.graph_shell.specs.Events.{Answered, AnswersLine, answer_line, answer_short, events_text, lines_text}
 use Rattle.graph_shell.specs.declared.run.Ending.{Ending}
 use Rattle.graph_shell.specs.declared.run.Ending.TheVariants.{Done}
-use Rattle.graph_shell.specs.Runs.{AnswersEvents, AnswersNext, Continues}
+use Rattle.graph_shell.specs.Runs.{AnswersEvents, AnswersNext, Continues, WritesFront}
 
 within : (limit n : ℕ) → n ≤ limit → nat_lt limit n ≡ false
 within limit n short = grind (arith, nat_tests)
@@ -128,6 +128,38 @@ at_last core ahead list left before now so_far none read =
           ∙ ap (λ x. so_far.text ++ x) (no_lines [] w)
           ∙ append-nil so_far.text));
     }
+
+-- what was written so far is a front of the whole text
+pub front_of : (core : Kept) (ahead list before now : List ℕ) → SoFar core ahead list before now → WritesFront list before now
+front_of core ahead list before now so_far =
+    let rest : List ℕ = lines_text [] (run (start_world first_start) so_far.es) (lines_of ahead) in
+    record {
+      wanting = so_far.choices [];
+      unwritten = rest;
+      front = ap (λ x. x ++ rest) so_far.written ∙ append_assoc before so_far.text rest ∙ ap (λ x. before ++ x) (sym (so_far.whole []));
+    }
+
+front_and_rest : (now text rest : List ℕ) (n : ℕ) → (now ++ take n text) ++ (drop n text ++ rest) ≡ (now ++ text) ++ rest
+front_and_rest now text rest n =
+    append_assoc now (take n text) (drop n text ++ rest)
+    ∙ ap (λ x. now ++ x) (sym (append_assoc (take n text) (drop n text) rest) ∙ ap (λ x. x ++ rest) (take-append-drop n text))
+    ∙ sym (append_assoc now text rest)
+
+-- so it is where only a front of the next reply was written
+pub front_of_reply : (core new : Kept) (ahead rest list before now then text : List ℕ) (n : ℕ) → (so_far : SoFar core ahead list before now)
+    → AnswersNext new text ahead rest so_far.es → then ≡ now ++ take n text → WritesFront list before then
+front_of_reply core new ahead rest list before now then text n so_far next is =
+    let f : WritesFront list before (now ++ text) = front_of new rest list before (now ++ text)
+    (one_more core new ahead rest list before now (now ++ text) text so_far next refl) in
+    record {
+      wanting = f.wanting;
+      unwritten = drop n text ++ f.unwritten;
+      front = ap (λ x. x ++ (drop n text ++ f.unwritten)) is ∙ front_and_rest now text f.unwritten n ∙ f.front;
+    }
+
+-- nothing was written yet
+pub front_of_nothing : (list before : List ℕ) → WritesFront list before before
+front_of_nothing list before = record { wanting = []; unwritten = events_text [] list; front = refl }
 
 -- where nothing waits and nothing is left, nothing is left
 pub nothing_left : (waiting left : List ℕ) → waiting ++ left ≡ [] → left ≡ []

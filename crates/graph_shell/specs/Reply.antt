@@ -1,6 +1,7 @@
 -- The line that answers a request.
 use Rattle.std.specs.Prelude.{ℕ, List, [], ◌∷◌, ◌++◌, codes, Option, Some, None}
 use Rattle.std.specs.Fmt.{decimal}
+use Rattle.graph_value.specs.Id.{oid_text}
 use Rattle.graph_value.specs.declared.id.Oid.{Oid}
 use Rattle.graph_value.specs.declared.id.Oid.TheVariants as oid
 use Rattle.graph_record.specs.declared.object.Object.{Object}
@@ -14,10 +15,6 @@ use Rattle.world_model.specs.declared.answer.Refused.{Refused}
 use Rattle.world_model.specs.declared.answer.Refused.TheVariants as refused
 use Rattle.world_model.specs.declared.answer.Answer.{Answer}
 use Rattle.world_model.specs.declared.answer.Answer.TheVariants as answer
-
-abbrev pub oid_text : Oid → List ℕ
-oid_text (oid.Vertex id) = codes "v" ++ decimal id.0
-oid_text (oid.Edge id) = codes "e" ++ decimal id.0
 
 -- the start of a transaction that is open, or the time of a commit
 abbrev pub rival_text : Rival → List ℕ

@@ -33,6 +33,12 @@ pub record AnswersEvents (left left' taken taken' : List ℕ) : Type 0 where
   pub wanting : List Bool
   pub written : taken' ≡ taken ++ events_text wanting left
 
+-- A front of the text that answers the list was written, and no other byte.
+pub record WritesFront (left taken taken' : List ℕ) : Type 0 where
+  pub wanting : List Bool
+  pub unwritten : List ℕ
+  pub front : taken' ++ unwritten ≡ taken ++ events_text wanting left
+
 -- How many bytes were taken before this ending: more than the limit exactly where that is the cause.
 abbrev pub IsEndingAfter : Ending → ℕ → Type 0
 IsEndingAfter Limit taken = INPUT_LIMIT < taken

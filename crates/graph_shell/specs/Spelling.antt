@@ -5,18 +5,23 @@ use Rattle.std.specs.List.{join_with_byte}
 use Rattle.std.specs.Fmt.{decimal, signed_decimal}
 use Rattle.graph_value.specs.declared.id.Oid.{Oid}
 use Rattle.graph_value.specs.declared.id.Oid.TheVariants as oid
-use Rattle.graph_value.specs.declared.value.Value.{Value}
-use Rattle.graph_value.specs.declared.value.Value.TheVariants.{Int}
+use Rattle.graph_value.specs.declared.value.Value.{Value, out-Value}
+use Rattle.graph_value.specs.declared.value.Value.TheOpen.{Value-F}
 use Rattle.world_model.specs.declared.event.Ask.{Ask}
 use Rattle.world_model.specs.declared.event.Ask.TheVariants.{CreateVertex, SetVertexProp, SetEdgeProp}
 use Rattle.world_model.specs.declared.event.Event.{Event}
 use Rattle.world_model.specs.declared.event.Event.TheVariants.{Begin, Read, Write, Commit}
 use Rattle.graph_shell.specs.declared.request.Request.{Request}
-use Rattle.graph_shell.specs.Reply.{oid_text}
+use Rattle.graph_value.specs.Id.{oid_text}
 use Rattle.graph_shell.specs.Request.{is_name, request_of}
 
+-- an integer is written as it is; no line sets another value
+abbrev pub set_level : {A : Type 0} → Oid → List ℕ → Value-F A → List (List ℕ)
+set_level x name (Value-F.Int n) = codes "set" ∷ oid_text x ∷ name ∷ signed_decimal n ∷ []
+set_level x name v = []
+
 abbrev pub set_words : Oid → List ℕ → Value → List (List ℕ)
-set_words x name (Int n) = codes "set" ∷ oid_text x ∷ name ∷ signed_decimal n ∷ []
+set_words x name value = set_level x name (out-Value value)
 
 abbrev pub ask_words : Ask → List (List ℕ)
 ask_words CreateVertex = codes "vertex" ∷ []
@@ -39,8 +44,12 @@ abbrev pub IsSpelledOid : Oid → Type 0
 IsSpelledOid (oid.Vertex id) = id.0 < 2 ^ 63
 IsSpelledOid (oid.Edge id) = id.0 < 2 ^ 63
 
+abbrev pub IsSpelledLevel : {A : Type 0} → Oid → List ℕ → Value-F A → Type 0
+IsSpelledLevel x name (Value-F.Int n) = IsSpelledOid x × (is_name name ≡ true) × FitsSigned w64 n
+IsSpelledLevel x name v = ⊥
+
 abbrev pub IsSpelledSet : Oid → List ℕ → Value → Type 0
-IsSpelledSet x name (Int n) = IsSpelledOid x × (is_name name ≡ true) × FitsSigned w64 n
+IsSpelledSet x name value = IsSpelledLevel x name (out-Value value)
 
 abbrev pub IsSpelledAsk : Ask → Type 0
 IsSpelledAsk CreateVertex = Unit {0}

@@ -1,8 +1,8 @@
-ghost use Rattle.std.specs.Prelude.{◌≡◌, ◌≢◌, ◌-◌, None, length};
+ghost use Rattle.std.specs.Prelude.{◌≡◌, ◌≢◌, ◌-◌, ◌++◌, None, length};
 ghost use Rattle.wire_line.specs.Failures.{Rose};
 ghost use Rattle.wire_line.specs.Telling.{WhereSourceTells, WhereSinkTells};
-ghost use Rattle.graph_shell.specs.Runs.{AnswersEvents, IsStatusAfter};
-ghost use Rattle.graph_shell.specs.Commands.{command_of};
+ghost use Rattle.graph_shell.specs.Runs.{AnswersEvents, IsStatusAfter, WritesFront};
+ghost use Rattle.graph_shell.specs.Commands.{command_of, usage_line};
 
 use crate::run::run_events;
 use graph_value::Text;
@@ -38,10 +38,15 @@ pub fn aeong_main<I: Source, O: Sink>(
 ) -> u8
     ensures usage { result ≡ 2 → command_of words.now ≡ None }
     ensures refused { command_of words.now ≡ None → result ≢ 4 → result ≡ 2 }
+    ensures written { command_of words.now ≡ None → WhereSinkTells (O.taken output.old) (O.taken output.new)
+        (λ taken taken'. result ≡ 2 → taken' ≡ taken ++ usage_line) }
     ensures text { command_of words.now ≢ None → WhereSourceTells
         (I.came input.old) (I.left input.old) (I.came input.new) (I.left input.new)
         (λ _ left _ left'. WhereSinkTells (O.taken output.old) (O.taken output.new)
         (λ taken taken'. result ≡ 0 → AnswersEvents left left' taken taken')) }
+    ensures front { command_of words.now ≢ None → WhereSourceTells
+        (I.came input.old) (I.left input.old) (I.came input.new) (I.left input.new)
+        (λ _ left _ _. WhereSinkTells (O.taken output.old) (O.taken output.new) (WritesFront left)) }
     ensures limit { command_of words.now ≢ None → WhereSourceTells
         (I.came input.old) (I.left input.old) (I.came input.new) (I.left input.new)
         (λ came _ came' _. IsStatusAfter result (length came' - length came)) }

@@ -1,9 +1,10 @@
 ghost use Rattle.std.specs.Prelude.{◌≡◌, ◌++◌, OnOk, string_bytes};
-ghost use Rattle.graph_shell.specs.Reply.{IsAnswerTo, IsVersionOf, answer_text, bad_line, oid_text, refused_text, reply_text, rival_text, version_text, wrote_text};
+ghost use Rattle.graph_value.specs.Id.{oid_text};
+ghost use Rattle.graph_shell.specs.Reply.{IsAnswerTo, IsVersionOf, answer_text, bad_line, refused_text, reply_text, rival_text, version_text, wrote_text};
 
 use crate::NoMemory;
 use graph_record::{Object, object_json};
-use graph_value::{EdgeId, Oid, VertexId};
+use graph_value::Oid;
 use std::alloc::Global;
 use std::fmt::Write;
 use txn_manager::Rival;
@@ -122,10 +123,7 @@ fn push_rival(out: &mut String, rival: Rival) -> Result<(), NoMemory>
 fn push_oid(out: &mut String, x: Oid) -> Result<(), NoMemory>
     ensures ok { OnOk result (string_bytes out.new ≡ string_bytes out.old ++ oid_text x) }
 {
-    match x {
-        Oid::Vertex(VertexId(n)) => write!(out, "v{n}"),
-        Oid::Edge(EdgeId(n)) => write!(out, "e{n}"),
-    }
+    write!(out, "{x}")
 }
 
 #[cfg(test)]

@@ -4,7 +4,7 @@ ghost use Rattle.wire_line.specs.Telling.{WhereSourceTells, WhereSinkTells};
 ghost use Rattle.wire_line.specs.Intake.{Moves};
 ghost use Rattle.world_model.specs.History.{Entry};
 ghost use Rattle.front_core.specs.Keeps.{StandsFor, first_start};
-ghost use Rattle.graph_shell.specs.Runs.{AnswersEvents, Continues, IsEndingAfter, IsStatusAfter, IsTurnAfter, status_of};
+ghost use Rattle.graph_shell.specs.Runs.{AnswersEvents, Continues, IsEndingAfter, IsStatusAfter, IsTurnAfter, WritesFront, status_of};
 
 use crate::answer::answer_line;
 use crate::reply::push_bad_line;
@@ -87,6 +87,9 @@ fn answer_all<I: Source, O: Sink>(alloc: Global, input: &mut I, output: &mut O) 
         (I.came input.old) (I.left input.old) (I.came input.new) (I.left input.new)
         (λ _ left _ left'. WhereSinkTells (O.taken output.old) (O.taken output.new)
         (λ taken taken'. result ≡ Ending.Done → AnswersEvents left left' taken taken')) }
+    ensures front { WhereSourceTells
+        (I.came input.old) (I.left input.old) (I.came input.new) (I.left input.new)
+        (λ _ left _ _. WhereSinkTells (O.taken output.old) (O.taken output.new) (WritesFront left)) }
     ensures limit { WhereSourceTells
         (I.came input.old) (I.left input.old) (I.came input.new) (I.left input.new)
         (λ came _ came' _. IsEndingAfter result (length came' - length came)) }
@@ -114,12 +117,15 @@ fn answer_all<I: Source, O: Sink>(alloc: Global, input: &mut I, output: &mut O) 
 ///
 /// Status 0: the source was read to its end, and the sink took the text that answers the list. 3: the source failed,
 /// 4: the sink failed, and each only where the count of its faults rose. 5: memory was wanting. 7: the input goes on
-/// behind its limit.
+/// behind its limit. At each of them a front of that text was written, and nothing else.
 pub fn run_events<I: Source, O: Sink>(alloc: Global, input: &mut I, output: &mut O) -> u8
     ensures text { WhereSourceTells
         (I.came input.old) (I.left input.old) (I.came input.new) (I.left input.new)
         (λ _ left _ left'. WhereSinkTells (O.taken output.old) (O.taken output.new)
         (λ taken taken'. result ≡ 0 → AnswersEvents left left' taken taken')) }
+    ensures front { WhereSourceTells
+        (I.came input.old) (I.left input.old) (I.came input.new) (I.left input.new)
+        (λ _ left _ _. WhereSinkTells (O.taken output.old) (O.taken output.new) (WritesFront left)) }
     ensures limit { WhereSourceTells
         (I.came input.old) (I.left input.old) (I.came input.new) (I.left input.new)
         (λ came _ came' _. IsStatusAfter result (length came' - length came)) }

@@ -1,2 +1,11 @@
+pub mod Equals
+pub mod Hash
+pub mod Id
+pub mod Less
 pub mod Name
+pub mod Order
+pub mod SameLaws
+pub mod Size
+pub mod Storable
+pub mod Tri
 pub mod Value

@@ -5,7 +5,8 @@ use Rattle.std.proofs.lemmas.Bool.{false≢true}
 use Rattle.std.proofs.lemmas.Bool.Decides.{nat_tests}
 use Rattle.graph_value.specs.declared.id.Oid.{Oid}
 use Rattle.graph_record.specs.Graph.{empty_graph}
-use Rattle.world_model.specs.Op.{Op, are_touching, are_below, are_sound}
+use Rattle.undo_delta.specs.declared.op.Op.{Op}
+use Rattle.world_model.specs.Op.{are_touching, are_below, are_sound}
 use Rattle.world_model.specs.World.{World, Commit, Txn, find_txn, txn_of, touched_after, InOrder, fold_of, before, ops_of}
 use Rattle.world_model.specs.Step.{without}
 use Rattle.world_model.proofs.Txns.{find_txn-without}

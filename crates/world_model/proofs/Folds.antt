@@ -4,15 +4,29 @@ use Rattle.std.specs.Prelude.{nat_eq, nat_lt}
 use Rattle.std.specs.List.{list_any, list_all}
 use Rattle.std.proofs.lemmas.Bool.{false≢true}
 use Rattle.std.proofs.lemmas.Bool.Decides.{nat_tests}
+use Rattle.graph_value.specs.Value.{same_value}
 use Rattle.graph_value.specs.declared.id.Oid.{Oid}
 use Rattle.graph_value.specs.declared.id.Oid.TheVariants.{Vertex, Edge}
 use Rattle.graph_record.specs.declared.object.Object.{Object}
 use Rattle.graph_record.specs.declared.object.Object.TheVariants as object
-use Rattle.graph_record.specs.Graph.{Graph, empty_graph, object_at, is_dead}
-use Rattle.world_model.specs.Op.{Op, create_vertex, set_vertex_property, set_edge_property, apply, apply_all, is_touched, are_touching, is_possible, changes, are_sound, are_below, is_given, touches, same_oid, is_value, property_of}
+use Rattle.graph_record.specs.Graph.{Graph, empty_graph, object_at}
+use Rattle.undo_delta.specs.Change as one
+use Rattle.undo_delta.specs.Change.{has_label, value_at, kept}
+use Rattle.undo_delta.specs.Touch.{touches, same_oid, is_touched}
+use Rattle.undo_delta.specs.declared.op.Op.{Op}
+use Rattle.undo_delta.specs.declared.op.Op.TheVariants.{CreateVertex, DeleteVertex, AddLabel, RemoveLabel, SetVertexProp, CreateEdge, DeleteEdge, SetEdgeProp}
+use Rattle.world_model.specs.Op.{apply, apply_all, are_touching, is_possible, changes, are_sound, are_below, is_given}
 use Rattle.world_model.specs.Change.{object_after, object_after_all}
 use Rattle.world_model.specs.World.{Commit, ops_of, before, touched_after, fold_of}
-use Rattle.world_model.proofs.Objects.{object_at-apply, object_at-apply_all, untouched, or_left_false, or_right_false, object_after_all-append}
+use Rattle.world_model.proofs.Objects.{object_at-apply, object_at-apply_all, untouched, or_left_false, or_right_false, object_after_all-append, same_vertex, same_edge}
+
+pub and_left_true : (a b : Bool) → (a && b) ≡ true → a ≡ true
+and_left_true true b h = refl
+and_left_true false b h = h
+
+pub and_right_true : (a b : Bool) → (a && b) ≡ true → b ≡ true
+and_right_true true b h = h
+and_right_true false b h = absurd (false≢true h)
 
 pub nat_eq_refl : (n : ℕ) → nat_eq n n ≡ true
 nat_eq_refl n = grind (arith, nat_tests)
@@ -25,15 +39,52 @@ true_or : (b : Bool) → (b || true) ≡ true
 true_or true = refl
 true_or false = refl
 
+pub same_itself : (x : Oid) → same_oid x x ≡ true
+same_itself (Vertex v) = nat_eq_refl v.0
+same_itself (Edge e) = nat_eq_refl e.0
+
+-- two tests that agree on the listed objects
+all_same : (P Q : Oid → Bool) (xs : List Oid) → ((x : Oid) → list_any (same_oid x) xs ≡ true → P x ≡ Q x) → list_all P xs ≡ list_all Q xs
+all_same P Q [] same = refl
+all_same P Q (x ∷ xs) same =
+    ap (λ b. b && list_all P xs) (same x (ap (λ b. b || list_any (same_oid x) xs) (same_itself x)))
+    ∙ ap (λ b. Q x && b) (all_same P Q xs (λ y t. same y (ap (λ b. same_oid y x || b) t ∙ true_or (same_oid y x))))
+
 pub same_possible : (op : Op) (g h : Graph) → ((x : Oid) → is_touched op x ≡ true → object_at g x ≡ object_at h x) → is_possible op g ≡ is_possible op h
-same_possible (create_vertex v) g h same = ap is_dead (same (Vertex v) (ap (λ b. b || false) (nat_eq_refl v.0)))
-same_possible (set_vertex_property v k x) g h same = ap (λ o. not (is_dead o)) (same (Vertex v) (ap (λ b. b || false) (nat_eq_refl v.0)))
-same_possible (set_edge_property e k x) g h same = ap (λ o. not (is_dead o)) (same (Edge e) (ap (λ b. b || false) (nat_eq_refl e.0)))
+same_possible op g h same =
+    all_same (λ x. one.is_possible op x (object_at g x)) (λ x. one.is_possible op x (object_at h x)) (touches op) (λ x t. ap (one.is_possible op x) (same x t))
+
+-- ids with one number of one kind are one id
+pub same_id : (x y : Oid) → same_oid x y ≡ true → x ≡ y
+same_id (Vertex a) (Vertex b) h = ap Vertex (same_vertex a b h)
+same_id (Vertex a) (Edge b) h = absurd (false≢true h)
+same_id (Edge a) (Vertex b) h = absurd (false≢true h)
+same_id (Edge a) (Edge b) h = ap Edge (same_edge a b h)
+
+all_at : (P : Oid → Bool) (xs : List Oid) (x : Oid) → list_all P xs ≡ true → list_any (same_oid x) xs ≡ true → P x ≡ true
+all_at P [] x all there = absurd (false≢true there)
+all_at P (y ∷ ys) x all there =
+    elim (same_oid x y) as (λ b. same_oid x y ≡ b → P x ≡ true) [
+      | true ↦ λ is. ap P (same_id x y is) ∙ and_left_true (P y) (list_all P ys) all
+      | false ↦ λ is. all_at P ys x (and_right_true (P y) (list_all P ys) all) (sym (ap (λ b. b || list_any (same_oid x) ys) is) ∙ there)
+    ] refl
+
+-- a write that may stand is possible on each object that it touches
+pub possible_at : (op : Op) (g : Graph) (x : Oid) → is_possible op g ≡ true → is_touched op x ≡ true → one.is_possible op x (object_at g x) ≡ true
+possible_at op g x all there = all_at (λ y. one.is_possible op y (object_at g y)) (touches op) x all there
+
+pub one_touched : (n : ℕ) → (nat_eq n n || false) ≡ true
+one_touched n = ap (λ b. b || false) (nat_eq_refl n)
 
 pub same_changes : (op : Op) (g h : Graph) → ((x : Oid) → is_touched op x ≡ true → object_at g x ≡ object_at h x) → changes op g ≡ changes op h
-same_changes (create_vertex v) g h same = refl
-same_changes (set_vertex_property v k x) g h same = ap (λ o. not (is_value x (property_of o k))) (same (Vertex v) (ap (λ b. b || false) (nat_eq_refl v.0)))
-same_changes (set_edge_property e k x) g h same = ap (λ o. not (is_value x (property_of o k))) (same (Edge e) (ap (λ b. b || false) (nat_eq_refl e.0)))
+same_changes (CreateVertex v) g h same = refl
+same_changes (DeleteVertex v) g h same = refl
+same_changes (AddLabel v name) g h same = ap (λ o. not (has_label name o)) (same (Vertex v) (one_touched v.0))
+same_changes (RemoveLabel v name) g h same = ap (has_label name) (same (Vertex v) (one_touched v.0))
+same_changes (SetVertexProp v k x) g h same = ap (λ o. not (same_value (value_at k o) (kept x))) (same (Vertex v) (one_touched v.0))
+same_changes (CreateEdge e from kind to) g h same = refl
+same_changes (DeleteEdge e from to) g h same = refl
+same_changes (SetEdgeProp e k x) g h same = ap (λ o. not (same_value (value_at k o) (kept x))) (same (Edge e) (one_touched e.0))
 
 -- writes are sound at one graph where they are at another that agrees on what they touch
 pub same_sound : (ops : List Op) (g h : Graph) → AgreeOn ops g h → are_sound ops g ≡ are_sound ops h
@@ -110,14 +161,6 @@ views_agree t commits ops apart quiet x touched =
     object_at-apply_all (ops_of commits) empty_graph x
     ∙ seen_before t x commits (object_at empty_graph x) apart (quiet x touched)
     ∙ sym (object_at-apply_all (ops_of (before t commits)) empty_graph x)
-
-pub and_left_true : (a b : Bool) → (a && b) ≡ true → a ≡ true
-and_left_true true b h = refl
-and_left_true false b h = h
-
-pub and_right_true : (a b : Bool) → (a && b) ≡ true → b ≡ true
-and_right_true true b h = h
-and_right_true false b h = absurd (false≢true h)
 
 pub both_true : (a b : Bool) → a ≡ true → b ≡ true → (a && b) ≡ true
 both_true a b p q = ap (λ c. c && b) p ∙ q

@@ -9,7 +9,8 @@ use Rattle.world_model.specs.declared.event.Event.{Event}
 use Rattle.world_model.specs.declared.event.Event.TheVariants as event
 use Rattle.world_model.specs.declared.answer.Answer.{Answer}
 use Rattle.world_model.specs.declared.answer.Refused.{Refused}
-use Rattle.world_model.specs.Op.{Op, changes, are_below, are_sound}
+use Rattle.undo_delta.specs.declared.op.Op.{Op}
+use Rattle.world_model.specs.Op.{changes, are_below, are_sound}
 use Rattle.world_model.specs.World.{World, Start, start_world, InOrder, Commit, Txn, stamps_ascend, rises, txn_of, find_txn, transactions_of, view_of, ops_of}
 use Rattle.world_model.specs.Step.{step, begin_step, read_step, write_step, allowed_write_step, effect_step, commit_step, committed, write_refusal, op_of}
 use Rattle.world_model.specs.History.{Entry, run, AreAnswered, IsAnswered, world_after, is_no_memory, IsLegal, IsStart, stamp_given, stamp_of_txn, stamp_of_writes, stamps_given}
@@ -81,12 +82,12 @@ begin_commits : (w : World) (c : ℕ) (r : Option BeginRefused) → (begin_step 
 begin_commits w c None = refl
 begin_commits w c (Some why) = refl
 
-effect_commits : (w : World) (c : ℕ) (op : Op) (b : Bool) → (effect_step w c op b).world.commits ≡ w.commits
-effect_commits w c op true = refl
-effect_commits w c op false = refl
+effect_commits : (w : World) (c : ℕ) (ask : Ask) (b : Bool) → (effect_step w c ask b).world.commits ≡ w.commits
+effect_commits w c ask true = refl
+effect_commits w c ask false = refl
 
 allowed_commits : (w : World) (p : Txn) (c : ℕ) (ask : Ask) (r : Option Refused) → (allowed_write_step w p c ask r).world.commits ≡ w.commits
-allowed_commits w p c ask None = effect_commits w c (op_of w ask) (changes (op_of w ask) (view_of w p))
+allowed_commits w p c ask None = effect_commits w c ask (changes (op_of w ask) (view_of w p))
 allowed_commits w p c ask (Some why) = refl
 
 write_commits : (w : World) (c : ℕ) (ask : Ask) (p : Option Txn) → (write_step w c ask p).world.commits ≡ w.commits

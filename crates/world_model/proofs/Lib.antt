@@ -5,7 +5,13 @@ pub mod Lists
 pub mod Begins
 pub mod Writes
 pub mod Commits
+pub mod EdgeLists
+pub mod GraphOrder
+pub mod Ends
 pub mod Coherence
 pub mod Order
 pub mod Histories
 pub mod Replies
+pub mod Effects
+pub mod Undo
+mod Worked

@@ -9,7 +9,7 @@ use Rattle.txn_manager.specs.RunningList as list
 use Rattle.txn_manager.specs.Transactions.{IsReady}
 use Rattle.txn_manager.proofs.TransactionsLemmas.{IsReady-left}
 use Rattle.txn_manager.proofs.RunningListLemmas.{remove-place, length-remove_place, place_from_start}
-use Rattle.world_model.specs.Op.{Op}
+use Rattle.undo_delta.specs.declared.op.Op.{Op}
 use Rattle.world_model.specs.World.{World, Commit, Txn, find_txn, transactions_of, stamps_ascend}
 use Rattle.world_model.specs.Step.{with_op, without}
 use Rattle.world_model.proofs.Folds.{both_true, both_false, and_left_true, and_right_true}

@@ -12,13 +12,15 @@ use Rattle.world_model.specs.declared.event.Ask.{Ask}
 use Rattle.world_model.specs.declared.event.Event.{Event}
 use Rattle.world_model.specs.declared.event.Event.TheVariants as event
 use Rattle.world_model.specs.declared.answer.Refused.{Refused}
-use Rattle.world_model.specs.Op.{Op, are_sound, changes}
+use Rattle.undo_delta.specs.declared.op.Op.{Op}
+use Rattle.world_model.specs.Op.{are_sound, changes}
 use Rattle.world_model.specs.World.{World, Commit, Txn, txn_of, transactions_of, InOrder, fold_of, before, ops_of, view_of, graph_at, stamps_ascend}
 use Rattle.world_model.specs.Step.{Outcome, step, begin_step, read_step, write_step, commit_step, allowed_write_step, effect_step, committed, write_refusal, op_of, written_world}
 use Rattle.world_model.proofs.Begins.{begin_keeps_order}
 use Rattle.world_model.proofs.Writes.{write_keeps_order}
 use Rattle.world_model.proofs.Commits.{commit_keeps_order, empty_commit_keeps_order}
-use Rattle.world_model.proofs.Coherence.{coherent-sound, coherent-empty}
+use Rattle.graph_record.proofs.Graphs.{empty_coherent}
+use Rattle.world_model.proofs.Coherence.{coherent-sound}
 use Rattle.world_model.proofs.Folds.{are_sound-append, ops_of-append, and_left_true, and_right_true}
 
 begins : (w : World) (c : ℕ) → InOrder w → (r : Option BeginRefused) → begin_refusal (transactions_of w) c ≡ r → InOrder (begin_step w c r).world
@@ -29,7 +31,7 @@ reads : (w : World) (x : Oid) → InOrder w → (p : Option Txn) → InOrder (re
 reads w x o None = o
 reads w x o (Some p) = o
 
-effects : (w : World) (c : ℕ) (p : Txn) (ask : Ask) → InOrder w → txn_of w c ≡ Some p → write_refusal w p ask ≡ None → (b : Bool) → changes (op_of w ask) (view_of w p) ≡ b → InOrder (effect_step w c (op_of w ask) b).world
+effects : (w : World) (c : ℕ) (p : Txn) (ask : Ask) → InOrder w → txn_of w c ≡ Some p → write_refusal w p ask ≡ None → (b : Bool) → changes (op_of w ask) (view_of w p) ≡ b → InOrder (effect_step w c ask b).world
 effects w c p ask o f h true e = write_keeps_order w c p ask o f h e
 effects w c p ask o f h false e = o
 
@@ -56,7 +58,7 @@ step_keeps_order w c (event.Write ask) o = writes w c ask o (txn_of w c) refl
 step_keeps_order w c event.Commit o = commits w c o (txn_of w c) refl
 
 -- from a commit that fails a test of early stamps on, none passes
-none_passes : (P : ℕ → Bool) → ((a b : ℕ) → nat_lt a b ≡ true → P b ≡ true → P a ≡ true) → (n : ℕ) (cs : List Commit) → P n ≡ false → list_all (λ d. nat_lt n d.ts) cs ≡ true → filter (λ c. P c.ts) cs ≡ []
+pub none_passes : (P : ℕ → Bool) → ((a b : ℕ) → nat_lt a b ≡ true → P b ≡ true → P a ≡ true) → (n : ℕ) (cs : List Commit) → P n ≡ false → list_all (λ d. nat_lt n d.ts) cs ≡ true → filter (λ c. P c.ts) cs ≡ []
 none_passes P early n [] h above = refl
 none_passes P early n (c ∷ cs) h above =
     let rest : filter (λ c. P c.ts) cs ≡ [] = none_passes P early n cs h (and_right_true _ _ above) in
@@ -91,14 +93,14 @@ front_sound w o P early =
 
 -- the graph at each instant is coherent
 pub instant_coherent : (w : World) → InOrder w → (t : ℕ) → IsCoherent (graph_at w.commits t)
-instant_coherent w o t = coherent-sound (ops_of (filter (λ c. nat_le c.ts t) w.commits)) empty_graph (front_sound w o (λ n. nat_le n t) early) coherent-empty
+instant_coherent w o t = coherent-sound (ops_of (filter (λ c. nat_le c.ts t) w.commits)) empty_graph (front_sound w o (λ n. nat_le n t) early) empty_coherent
   where
     early : (a b : ℕ) → nat_lt a b ≡ true → nat_le b t ≡ true → nat_le a t ≡ true
     early a b lt le = grind (arith, nat_tests)
 
 base_coherent : (w : World) → InOrder w → (t : ℕ) → IsCoherent (fold_of (before t w.commits))
 unfolding before
-base_coherent w o t = coherent-sound (ops_of (before t w.commits)) empty_graph (front_sound w o (λ n. nat_lt n t) early) coherent-empty
+base_coherent w o t = coherent-sound (ops_of (before t w.commits)) empty_graph (front_sound w o (λ n. nat_lt n t) early) empty_coherent
   where
     early : (a b : ℕ) → nat_lt a b ≡ true → nat_lt b t ≡ true → nat_lt a t ≡ true
     early a b lt le = grind (arith, nat_tests)

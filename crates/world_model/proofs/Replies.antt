@@ -13,7 +13,8 @@ use Rattle.world_model.specs.declared.event.Event.{Event}
 use Rattle.world_model.specs.declared.event.Event.TheVariants as event
 use Rattle.world_model.specs.declared.answer.Answer.{Answer}
 use Rattle.world_model.specs.declared.answer.Refused.{Refused}
-use Rattle.world_model.specs.Op.{Op, changes}
+use Rattle.undo_delta.specs.declared.op.Op.{Op}
+use Rattle.world_model.specs.Op.{changes}
 use Rattle.world_model.specs.World.{World, Txn, txn_of, transactions_of, view_of}
 use Rattle.world_model.specs.Step.{step, begin_step, read_step, write_step, allowed_write_step, effect_step, commit_step, committed, write_refusal, op_of}
 use Rattle.world_model.specs.History.{IsAnswered}
@@ -39,12 +40,12 @@ reads : (w : World) (x : Oid) (p : Option Txn) → IsReplyTo (event.Read x Rattl
 reads w x None = tt
 reads w x (Some p) = object_of (view_of w p) x
 
-effects : (w : World) (c : ℕ) (ask : Ask) (op : Op) (b : Bool) → IsReplyTo (event.Write ask) (effect_step w c op b).reply
-effects w c ask op true = tt
-effects w c ask op false = tt
+effects : (w : World) (c : ℕ) (ask : Ask) (b : Bool) → IsReplyTo (event.Write ask) (effect_step w c ask b).reply
+effects w c ask true = tt
+effects w c ask false = tt
 
 allowed : (w : World) (p : Txn) (c : ℕ) (ask : Ask) (r : Option Refused) → IsReplyTo (event.Write ask) (allowed_write_step w p c ask r).reply
-allowed w p c ask None = effects w c ask (op_of w ask) (changes (op_of w ask) (view_of w p))
+allowed w p c ask None = effects w c ask (changes (op_of w ask) (view_of w p))
 allowed w p c ask (Some why) = tt
 
 writes : (w : World) (c : ℕ) (ask : Ask) (p : Option Txn) → IsReplyTo (event.Write ask) (write_step w c ask p).reply

@@ -6,7 +6,8 @@ use Rattle.std.proofs.lemmas.Bool.Decides.{nat_tests}
 use Rattle.graph_value.specs.declared.id.Oid.{Oid}
 use Rattle.txn_manager.specs.Conflict.{rival_of, unseen_commit}
 use Rattle.txn_manager.specs.declared.rivals.Rival.TheVariants.{Committed}
-use Rattle.world_model.specs.Op.{Op, are_touching}
+use Rattle.undo_delta.specs.declared.op.Op.{Op}
+use Rattle.world_model.specs.Op.{are_touching}
 use Rattle.world_model.specs.World.{Commit, Txn, find_txn, other_writer, newest_touch, touched_after, greatest}
 use Rattle.world_model.specs.Step.{with_op, without, or_else}
 

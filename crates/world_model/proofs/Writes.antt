@@ -1,5 +1,5 @@
 -- A write that is allowed and changes the graph leaves a world in order.
-use Rattle.std.proofs.Common.{◌≡◌, ◌≢◌, ℕ, ◌+◌, ◌^◌, ◌≤◌, List, [], ◌∷◌, ◌++◌, Option, Some, None, Bool, true, false, not, ◌&&◌, ◌||◌, cond, refl, sym, ap, subst, ◌∙◌, ◌⊎◌, inl, inr, arith}
+use Rattle.std.proofs.Common.{◌≡◌, ◌≢◌, ℕ, ◌+◌, ◌^◌, ◌≤◌, List, [], ◌∷◌, ◌++◌, Option, Some, None, Bool, true, false, ◌&&◌, ◌||◌, cond, refl, sym, ap, subst, ◌∙◌, ◌⊎◌, inl, inr, arith}
 use Rattle.std.specs.Prelude.{nat_eq, nat_lt, nat_le, option_map}
 use Rattle.std.specs.List.{list_any}
 use Rattle.std.proofs.lemmas.Bool.{false≢true}
@@ -7,41 +7,41 @@ use Rattle.std.proofs.lemmas.Bool.Decides.{nat_tests}
 use Rattle.graph_value.specs.declared.id.Oid.{Oid}
 use Rattle.graph_value.specs.declared.id.Oid.TheVariants.{Vertex, Edge}
 use Rattle.graph_record.specs.declared.object.Object.TheVariants as object
-use Rattle.graph_record.specs.Graph.{Graph, empty_graph, object_at, is_dead}
+use Rattle.graph_record.specs.declared.object.VertexRecord.{VertexRecord}
+use Rattle.graph_record.specs.declared.object.EdgeRecord.{EdgeRecord}
+use Rattle.std.specs.FinMap.{find}
+use Rattle.graph_record.specs.Graph.{Graph, empty_graph, vertex_cmp, edge_cmp, vertex_object, edge_object, object_at, is_dead}
 use Rattle.txn_manager.specs.declared.running.Running.{Running}
 use Rattle.txn_manager.specs.declared.rivals.Rival.{Rival}
 use Rattle.txn_manager.specs.Transactions.{IsReady}
 use Rattle.world_model.specs.declared.event.Ask.{Ask}
 use Rattle.world_model.specs.declared.event.Ask.TheVariants.{CreateVertex, SetVertexProp, SetEdgeProp}
 use Rattle.world_model.specs.declared.answer.Refused.TheVariants.{Missing, IdEnd}
-use Rattle.world_model.specs.Op.{Op, create_vertex, set_vertex_property, set_edge_property, touches, is_touched, same_oid, are_touching, are_below, are_sound, is_given, is_possible, changes}
+use Rattle.undo_delta.specs.Change.{is_vertex, is_edge}
+use Rattle.undo_delta.specs.Touch.{touches, is_touched, same_oid}
+use Rattle.undo_delta.specs.declared.op.Op.{Op}
+use Rattle.world_model.specs.Op.{are_touching, are_below, are_sound, is_given, is_possible, changes}
 use Rattle.world_model.specs.World.{World, Txn, find_txn, txn_of, touched_after, InOrder, fold_of, before, ops_of, view_of, rival_at, other_writer, newest_touch}
 use Rattle.world_model.specs.Step.{with_op, or_else, op_of, named, missing, conflict, conflict_at, id_end, write_refusal, written_world, vertices_made}
-use Rattle.world_model.proofs.Objects.{or_false, apply_all-append, are_touching-append, same_vertex, same_edge}
+use Rattle.world_model.proofs.Objects.{or_false, apply_all-append, are_touching-append}
 use Rattle.world_model.proofs.Txns.{find_txn-with_op, with_write, nobody_else, quiet_after, no_rival, found_caller}
-use Rattle.world_model.proofs.Folds.{are_sound-append, are_below-append, are_below-more, before_below, both_true, beyond_dead}
+use Rattle.world_model.proofs.Folds.{same_id, are_sound-append, are_below-append, are_below-more, before_below, both_true, beyond_dead}
 use Rattle.world_model.proofs.Lists.{map-with_op}
 
--- the one object that a write touches
-abbrev pub target : Op → Oid
-target (create_vertex v) = Vertex v
-target (set_vertex_property v k x) = Vertex v
-target (set_edge_property e k x) = Edge e
+-- the one object that an asked write touches
+abbrev pub target : World → Ask → Oid
+target w CreateVertex = Vertex (record { 0 = w.vertices })
+target w (SetVertexProp v k x) = Vertex v
+target w (SetEdgeProp e k x) = Edge e
 
-pub touches_target : (op : Op) → touches op ≡ target op ∷ []
-touches_target (create_vertex v) = refl
-touches_target (set_vertex_property v k x) = refl
-touches_target (set_edge_property e k x) = refl
-
-same_id : (x y : Oid) → same_oid x y ≡ true → x ≡ y
-same_id (Vertex a) (Vertex b) h = ap Vertex (same_vertex a b h)
-same_id (Vertex a) (Edge b) h = absurd (false≢true h)
-same_id (Edge a) (Vertex b) h = absurd (false≢true h)
-same_id (Edge a) (Edge b) h = ap Edge (same_edge a b h)
+pub touches_target : (w : World) (ask : Ask) → touches (op_of w ask) ≡ target w ask ∷ []
+touches_target w CreateVertex = refl
+touches_target w (SetVertexProp v k x) = refl
+touches_target w (SetEdgeProp e k x) = refl
 
 -- what a write touches is its target
-pub touched_is : (op : Op) (x : Oid) → is_touched op x ≡ true → x ≡ target op
-touched_is op x h = same_id x (target op) (sym (or_false (same_oid x (target op))) ∙ (ap (list_any (same_oid x)) (sym (touches_target op)) ∙ h))
+pub touched_is : (w : World) (ask : Ask) (x : Oid) → is_touched (op_of w ask) x ≡ true → x ≡ target w ask
+touched_is w ask x h = same_id x (target w ask) (sym (or_false (same_oid x (target w ask))) ∙ (ap (list_any (same_oid x)) (sym (touches_target w ask)) ∙ h))
 
 none_first : {A : Type 0} (a b : Option A) → or_else a b ≡ None → a ≡ None
 none_first None b h = refl
@@ -56,10 +56,10 @@ no_conflict_at x None h = refl
 no_conflict_at x (Some rival) h = absurd cc
 
 -- no rival stands at the target
-pub free_target : (w : World) (p : Txn) (op : Op) → conflict w p (touches op) ≡ None → rival_at w p (target op) ≡ None
-free_target w p op h =
-    let one : conflict w p (target op ∷ []) ≡ None = ap (conflict w p) (sym (touches_target op)) ∙ h in
-    no_conflict_at (target op) _ (none_first _ None one)
+pub free_target : (w : World) (p : Txn) (ask : Ask) → conflict w p (touches (op_of w ask)) ≡ None → rival_at w p (target w ask) ≡ None
+free_target w p ask h =
+    let one : conflict w p (target w ask ∷ []) ≡ None = ap (conflict w p) (sym (touches_target w ask)) ∙ h in
+    no_conflict_at (target w ask) _ (none_first _ None one)
 
 no_start : (o : Option Txn) → option_map (λ q. q.start) o ≡ None → o ≡ None
 no_start None h = refl
@@ -98,17 +98,28 @@ not_missing g x h = pick (is_dead (object_at g x)) h
     pick true e = absurd cc
     pick false e = refl
 
+-- what is alive under a vertex's id is a vertex, and under an edge's an edge
+alive_vertex : (r : Option VertexRecord) → is_dead (vertex_object r) ≡ false → is_vertex (vertex_object r) ≡ true
+alive_vertex None h = sym h
+alive_vertex (Some r) h = refl
+
+alive_edge : (r : Option EdgeRecord) → is_dead (edge_object r) ≡ false → is_edge (edge_object r) ≡ true
+alive_edge None h = sym h
+alive_edge (Some r) h = refl
+
 -- an allowed write is possible in the view
 pub allowed_possible : (w : World) (c : ℕ) (p : Txn) (ask : Ask) → InOrder w → txn_of w c ≡ Some p → write_refusal w p ask ≡ None → is_possible (op_of w ask) (view_of w p) ≡ true
-allowed_possible w c p CreateVertex o open_p h = ap is_dead (unborn w c p (Vertex (record { 0 = w.vertices })) o open_p (itself w.vertices))
+allowed_possible w c p CreateVertex o open_p h = both_true _ _ (ap is_dead (unborn w c p (Vertex (record { 0 = w.vertices })) o open_p (itself w.vertices))) refl
   where
     itself : (n : ℕ) → nat_lt n n ≡ false
     itself n = grind (arith, nat_tests)
-allowed_possible w c p (SetVertexProp v k x) o open_p h = ap not (not_missing (view_of w p) (Vertex v) (none_first _ _ h))
-allowed_possible w c p (SetEdgeProp e k x) o open_p h = ap not (not_missing (view_of w p) (Edge e) (none_first _ _ h))
+allowed_possible w c p (SetVertexProp v k x) o open_p h =
+    both_true _ _ (alive_vertex (find vertex_cmp v (view_of w p).vertices) (not_missing (view_of w p) (Vertex v) (none_first _ _ h))) refl
+allowed_possible w c p (SetEdgeProp e k x) o open_p h =
+    both_true _ _ (alive_edge (find edge_cmp e (view_of w p).edges) (not_missing (view_of w p) (Edge e) (none_first _ _ h))) refl
 
 -- and touches what the counters have come to, once it is written
-pub allowed_given : (w : World) (c : ℕ) (p : Txn) (ask : Ask) → InOrder w → txn_of w c ≡ Some p → write_refusal w p ask ≡ None → are_below (w.vertices + vertices_made (op_of w ask)) w.edges (op_of w ask ∷ []) ≡ true
+pub allowed_given : (w : World) (c : ℕ) (p : Txn) (ask : Ask) → InOrder w → txn_of w c ≡ Some p → write_refusal w p ask ≡ None → are_below (w.vertices + vertices_made ask) w.edges (op_of w ask ∷ []) ≡ true
 unfolding are_below
 allowed_given w c p CreateVertex o open_p h = both_true _ _ (both_true _ _ (next w.vertices) refl) refl
   where
@@ -125,7 +136,7 @@ allowed_given w c p (SetEdgeProp e k x) o open_p h =
     both_true _ _ (both_true _ _ given refl) refl
 
 -- the counter stays within its end
-counted : (w : World) (p : Txn) (ask : Ask) → w.vertices ≤ 2 ^ 62 → write_refusal w p ask ≡ None → w.vertices + vertices_made (op_of w ask) ≤ 2 ^ 62
+counted : (w : World) (p : Txn) (ask : Ask) → w.vertices ≤ 2 ^ 62 → write_refusal w p ask ≡ None → w.vertices + vertices_made ask ≤ 2 ^ 62
 counted w p CreateVertex le h = next w.vertices (none_second (conflict w p (touches (op_of w CreateVertex))) (id_end w CreateVertex) h)
   where
     next : (n : ℕ) → cond (nat_le (2 ^ 62) n) (Some IdEnd) None ≡ None → n + 1 ≤ 2 ^ 62
@@ -168,8 +179,8 @@ neither : (a b : Bool) → a ≡ false → b ≡ false → (a || (b || false)) �
 neither a b p q = ap (λ c. c || (b || false)) p ∙ ap (λ c. c || false) q
 
 module _ (w : World) (c : ℕ) (p : Txn) (ask : Ask) (o : InOrder w) (open_p : txn_of w c ≡ Some p) (allowed : write_refusal w p ask ≡ None) (effective : changes (op_of w ask) (view_of w p) ≡ true) where
-  free : rival_at w p (target (op_of w ask)) ≡ None
-  free = free_target w p (op_of w ask) (none_first _ _ (none_second (missing (view_of w p) (named ask)) _ allowed))
+  free : rival_at w p (target w ask) ≡ None
+  free = free_target w p ask (none_first _ _ (none_second (missing (view_of w p) (named ask)) _ allowed))
 
   own_caller : nat_eq p.caller c ≡ true
   own_caller = found_caller w.running c p open_p
@@ -183,8 +194,8 @@ module _ (w : World) (c : ℕ) (p : Txn) (ask : Ask) (o : InOrder w) (open_p : t
   -- another caller's writes don't touch the target
   others_apart : (d : ℕ) (q : Txn) → find_txn w.running d ≡ Some q → nat_eq c d ≡ false → (x : Oid) → is_touched (op_of w ask) x ≡ true → are_touching q.ops x ≡ false
   others_apart d q f ne x t =
-      let at : are_touching q.ops (target (op_of w ask)) ≡ false = free_of_others w p (target (op_of w ask)) free d q f (subst (λ (n : ℕ). nat_eq n d ≡ false) (sym caller_is) ne) in
-      subst (λ (y : Oid). are_touching q.ops y ≡ false) (sym (touched_is (op_of w ask) x t)) at
+      let at : are_touching q.ops (target w ask) ≡ false = free_of_others w p (target w ask) free d q f (subst (λ (n : ℕ). nat_eq n d ≡ false) (sym caller_is) ne) in
+      subst (λ (y : Oid). are_touching q.ops y ≡ false) (sym (touched_is w ask x t)) at
 
   differs : (d : ℕ) → nat_eq c d ≡ false → c ≢ d
   differs d h same = false≢true (sym h ∙ equal c d same)
@@ -224,14 +235,14 @@ module _ (w : World) (c : ℕ) (p : Txn) (ask : Ask) (o : InOrder w) (open_p : t
   own_sound : are_sound (p.ops ++ op ∷ []) (fold_of (before p.start w.commits)) ≡ true
   own_sound = with_view w p op ∙ both_true _ _ (o.running_sound c p open_p) (both_true _ _ (both_true _ _ (allowed_possible w c p ask o open_p allowed) effective) refl)
 
-  own_below : are_below (w.vertices + vertices_made op) w.edges (p.ops ++ op ∷ []) ≡ true
-  own_below = are_below-append (w.vertices + vertices_made op) w.edges p.ops (op ∷ [])
-      ∙ both_true _ _ (are_below-more w.vertices (w.vertices + vertices_made op) w.edges p.ops (omega arith) (o.running_below c p open_p)) (allowed_given w c p ask o open_p allowed)
+  own_below : are_below (w.vertices + vertices_made ask) w.edges (p.ops ++ op ∷ []) ≡ true
+  own_below = are_below-append (w.vertices + vertices_made ask) w.edges p.ops (op ∷ [])
+      ∙ both_true _ _ (are_below-more w.vertices (w.vertices + vertices_made ask) w.edges p.ops (omega arith) (o.running_below c p open_p)) (allowed_given w c p ask o open_p allowed)
 
   own_quiet : (x : Oid) → are_touching (p.ops ++ op ∷ []) x ≡ true → touched_after p.start w.commits x ≡ false
   own_quiet x t = elim (one_of (are_touching p.ops x) (is_touched op x) (sym (touching_more p op x) ∙ t)) [
     | inl before_it ↦ o.unrivalled c p open_p x before_it
-    | inr now ↦ subst (λ (y : Oid). touched_after p.start w.commits y ≡ false) (sym (touched_is op x now)) (free_of_commits w p (target op) free)
+    | inr now ↦ subst (λ (y : Oid). touched_after p.start w.commits y ≡ false) (sym (touched_is w ask x now)) (free_of_commits w p (target w ask) free)
   ]
 
   -- what a fact needs to hold of every transaction afterwards: it holds of the caller's, and held of the others'
@@ -250,7 +261,7 @@ module _ (w : World) (c : ℕ) (p : Txn) (ask : Ask) (o : InOrder w) (open_p : t
       subst (λ (s : Txn). are_touching s.ops x ≡ false) (sym (isb ∙ ap (with_write op) (same_txn b r0 eb fb))) (other_apart a q na fa x t)
   pair_apart a b q r (others na fa) (others nb fb) ne x t = o.alone a b q r fa fb ne x t
 
-  pub write_keeps_order : InOrder (written_world w c op)
+  pub write_keeps_order : InOrder (written_world w c ask)
   write_keeps_order =
       let found : (d : ℕ) (q : Txn) → find_txn (with_op w.running c op) d ≡ Some q → Written c op w.running d q = written_found c op w.running in
       record {
@@ -261,8 +272,8 @@ module _ (w : World) (c : ℕ) (p : Txn) (ask : Ask) (o : InOrder w) (open_p : t
         apart = λ d q f. of_all (λ (s : Txn). list_any (λ k. nat_eq k.ts s.start) w.commits ≡ false) (o.apart c p open_p) (λ d q ne f. o.apart d q f) d q (found d q f);
         alone = λ a b q r fq fr ne x t. pair_apart a b q r (found a q fq) (found b r fr) ne x t;
         unrivalled = λ d q f. of_all (λ (s : Txn). (x : Oid) → are_touching s.ops x ≡ true → touched_after s.start w.commits x ≡ false) own_quiet (λ d q ne f. o.unrivalled d q f) d q (found d q f);
-        committed_below = are_below-more w.vertices (w.vertices + vertices_made op) w.edges (ops_of w.commits) (omega arith) o.committed_below;
-        running_below = λ d q f. of_all (λ (s : Txn). are_below (w.vertices + vertices_made op) w.edges s.ops ≡ true) own_below (λ d q ne f. are_below-more w.vertices (w.vertices + vertices_made op) w.edges q.ops (omega arith) (o.running_below d q f)) d q (found d q f);
+        committed_below = are_below-more w.vertices (w.vertices + vertices_made ask) w.edges (ops_of w.commits) (omega arith) o.committed_below;
+        running_below = λ d q f. of_all (λ (s : Txn). are_below (w.vertices + vertices_made ask) w.edges s.ops ≡ true) own_below (λ d q ne f. are_below-more w.vertices (w.vertices + vertices_made ask) w.edges q.ops (omega arith) (o.running_below d q f)) d q (found d q f);
         committed_sound = o.committed_sound;
         running_sound = λ d q f. of_all (λ (s : Txn). are_sound s.ops (fold_of (before s.start w.commits)) ≡ true) own_sound (λ d q ne f. o.running_sound d q f) d q (found d q f);
       }

@@ -6,7 +6,7 @@ use Rattle.world_model.specs.declared.answer.Answer.{Answer}
 use Rattle.world_model.specs.declared.answer.Answer.TheVariants as answer
 use Rattle.world_model.specs.declared.answer.Refused.{Refused}
 use Rattle.world_model.specs.declared.answer.Refused.TheVariants as refused
-use Rattle.world_model.specs.Op.{Op}
+use Rattle.undo_delta.specs.declared.op.Op.{Op}
 use Rattle.world_model.specs.World.{World, Start, Txn, start_world, txn_of}
 use Rattle.world_model.specs.Step.{step}
 

@@ -4,3 +4,4 @@ pub mod Step
 pub mod History
 pub mod Change
 pub mod Replies
+pub mod Undo

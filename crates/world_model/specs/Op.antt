@@ -1,87 +1,83 @@
--- Writes: what each does to a graph, which objects it touches, and where it may stand.
-use Rattle.std.specs.Prelude.{ℕ, List, [], ◌∷◌, Option, Some, None, Bool, true, false, not, ◌&&◌, nat_eq, nat_lt}
+-- What a write makes of a graph, and where it may stand.
+use Rattle.std.specs.Prelude.{ℕ, List, [], ◌∷◌, Option, Some, None, Bool, true, not, ◌&&◌, nat_lt}
 use Rattle.std.specs.List.{list_any, list_all}
 use Rattle.std.specs.FinMap.{find, put}
 use Rattle.graph_value.specs.Name.{name_cmp}
 use Rattle.graph_value.specs.Value.{same_value}
-use Rattle.graph_value.specs.declared.value.Value.{Value}
 use Rattle.graph_value.specs.declared.id.VertexId.{VertexId}
 use Rattle.graph_value.specs.declared.id.EdgeId.{EdgeId}
 use Rattle.graph_value.specs.declared.id.Oid.{Oid}
 use Rattle.graph_value.specs.declared.id.Oid.TheVariants.{Vertex, Edge}
 use Rattle.graph_record.specs.declared.object.VertexRecord.{VertexRecord}
 use Rattle.graph_record.specs.declared.object.EdgeRecord.{EdgeRecord}
-use Rattle.graph_record.specs.declared.object.Object.{Object}
-use Rattle.graph_record.specs.declared.object.Object.TheVariants as object
+use Rattle.graph_record.specs.Edits.{added, removed, removed_key}
 use Rattle.graph_record.specs.Record.{empty_vertex}
-use Rattle.graph_record.specs.Graph.{Graph, vertex_cmp, edge_cmp, object_at, is_dead}
+use Rattle.graph_record.specs.Stored.{set_property}
+use Rattle.graph_record.specs.Graph.{Graph, vertex_cmp, edge_cmp, object_at}
+use Rattle.undo_delta.specs.Change as one
+use Rattle.undo_delta.specs.Change.{new_edge, has_label, value_at, kept}
+use Rattle.undo_delta.specs.Touch.{touches, is_touched}
+use Rattle.undo_delta.specs.declared.op.Op.{Op}
+use Rattle.undo_delta.specs.declared.op.Op.TheVariants.{CreateVertex, DeleteVertex, AddLabel, RemoveLabel, SetVertexProp, CreateEdge, DeleteEdge, SetEdgeProp}
 
--- a write, with the id that a created object gets
-pub data Op : Type 0 where
-  create_vertex : VertexId → Op
-  set_vertex_property : VertexId → List ℕ → Value → Op
-  set_edge_property : EdgeId → List ℕ → Value → Op
+-- the vertex with its record changed, where it is alive
+abbrev pub with_found_vertex : Graph → VertexId → (VertexRecord → VertexRecord) → Option VertexRecord → Graph
+with_found_vertex g v f None = g
+with_found_vertex g v f (Some r) = record g { vertices = put vertex_cmp v (f r) g.vertices }
 
--- the vertex with the property set, where it is alive
-abbrev pub set_found_vertex : Graph → VertexId → List ℕ → Value → Option VertexRecord → Graph
-set_found_vertex g v k x None = g
-set_found_vertex g v k x (Some r) = record g { vertices = put vertex_cmp v (record r { props = put name_cmp k x r.props }) g.vertices }
+abbrev pub with_vertex : VertexId → (VertexRecord → VertexRecord) → Graph → Graph
+with_vertex v f g = with_found_vertex g v f (find vertex_cmp v g.vertices)
 
-abbrev pub set_found_edge : Graph → EdgeId → List ℕ → Value → Option EdgeRecord → Graph
-set_found_edge g e k x None = g
-set_found_edge g e k x (Some r) = record g { edges = put edge_cmp e (record r { props = put name_cmp k x r.props }) g.edges }
+abbrev pub with_found_edge : Graph → EdgeId → (EdgeRecord → EdgeRecord) → Option EdgeRecord → Graph
+with_found_edge g e f None = g
+with_found_edge g e f (Some r) = record g { edges = put edge_cmp e (f r) g.edges }
 
--- The graph after a write: a new vertex has an empty record, a set property has its value; all else stays.
+abbrev pub with_edge : EdgeId → (EdgeRecord → EdgeRecord) → Graph → Graph
+with_edge e f g = with_found_edge g e f (find edge_cmp e g.edges)
+
+-- The graph after a write. A new vertex has an empty record, a new edge no properties, and its id stands among those
+-- that leave the one vertex and come to the other; a deleted edge is taken out there. All else stays.
 abbrev pub apply : Op → Graph → Graph
-apply (create_vertex v) g = record g { vertices = put vertex_cmp v empty_vertex g.vertices }
-apply (set_vertex_property v k x) g = set_found_vertex g v k x (find vertex_cmp v g.vertices)
-apply (set_edge_property e k x) g = set_found_edge g e k x (find edge_cmp e g.edges)
+apply (CreateVertex v) g = record g { vertices = put vertex_cmp v empty_vertex g.vertices }
+apply (DeleteVertex v) g = record g { vertices = removed_key vertex_cmp v g.vertices }
+apply (AddLabel v name) g = with_vertex v (λ r. record r { labels = added name_cmp name r.labels }) g
+apply (RemoveLabel v name) g = with_vertex v (λ r. record r { labels = removed name_cmp name r.labels }) g
+apply (SetVertexProp v name value) g = with_vertex v (λ r. record r { props = set_property name value r.props }) g
+apply (CreateEdge e from kind to) g =
+    with_vertex to (λ r. record r { ins = added edge_cmp e r.ins })
+    (with_vertex from (λ r. record r { outs = added edge_cmp e r.outs })
+    (record g { edges = put edge_cmp e (new_edge kind from to) g.edges }))
+apply (DeleteEdge e from to) g =
+    with_vertex to (λ r. record r { ins = removed edge_cmp e r.ins })
+    (with_vertex from (λ r. record r { outs = removed edge_cmp e r.outs })
+    (record g { edges = removed_key edge_cmp e g.edges }))
+apply (SetEdgeProp e name value) g = with_edge e (λ r. record r { props = set_property name value r.props }) g
 
 -- the graph after several writes, in order
 unfoldable pub apply_all : List Op → Graph → Graph
 apply_all [] g = g
 apply_all (op ∷ ops) g = apply_all ops (apply op g)
 
--- the objects that a write touches, in order
-abbrev pub touches : Op → List Oid
-touches (create_vertex v) = Vertex v ∷ []
-touches (set_vertex_property v k x) = Vertex v ∷ []
-touches (set_edge_property e k x) = Edge e ∷ []
-
-abbrev pub same_oid : Oid → Oid → Bool
-same_oid (Vertex a) (Vertex b) = nat_eq a.0 b.0
-same_oid (Vertex a) (Edge b) = false
-same_oid (Edge a) (Vertex b) = false
-same_oid (Edge a) (Edge b) = nat_eq a.0 b.0
-
-abbrev pub is_touched : Op → Oid → Bool
-is_touched op x = list_any (same_oid x) (touches op)
-
 -- whether one of the writes touches the object
 unfoldable pub are_touching : List Op → Oid → Bool
 are_touching ops x = list_any (λ op. is_touched op x) ops
 
--- the value under a name, none where there is no such property
-abbrev pub property_of : Object → List ℕ → Option Value
-property_of object.Dead k = None
-property_of (object.Vertex r) k = find name_cmp k r.props
-property_of (object.Edge r) k = find name_cmp k r.props
-
-abbrev pub is_value : Value → Option Value → Bool
-is_value x None = false
-is_value x (Some y) = same_value y x
-
--- Whether a write may stand at this graph: a created object is dead, every other object it touches is alive.
+-- Whether a write may stand at this graph: it is possible on each object that it touches. A created object is dead,
+-- each other one is alive; a deleted vertex has no edges; a created edge stands in no list of its two vertices; a
+-- deleted edge has the ends that the write names and stands in their lists.
 abbrev pub is_possible : Op → Graph → Bool
-is_possible (create_vertex v) g = is_dead (object_at g (Vertex v))
-is_possible (set_vertex_property v k x) g = not (is_dead (object_at g (Vertex v)))
-is_possible (set_edge_property e k x) g = not (is_dead (object_at g (Edge e)))
+is_possible op g = list_all (λ x. one.is_possible op x (object_at g x)) (touches op)
 
--- Whether a possible write changes the graph: a property doesn't have that value already.
+-- Whether a possible write changes the graph: a label isn't there, or is; a property doesn't have that value already.
 abbrev pub changes : Op → Graph → Bool
-changes (create_vertex v) g = true
-changes (set_vertex_property v k x) g = not (is_value x (property_of (object_at g (Vertex v)) k))
-changes (set_edge_property e k x) g = not (is_value x (property_of (object_at g (Edge e)) k))
+changes (CreateVertex v) g = true
+changes (DeleteVertex v) g = true
+changes (AddLabel v name) g = not (has_label name (object_at g (Vertex v)))
+changes (RemoveLabel v name) g = has_label name (object_at g (Vertex v))
+changes (SetVertexProp v name value) g = not (same_value (value_at name (object_at g (Vertex v))) (kept value))
+changes (CreateEdge e from kind to) g = true
+changes (DeleteEdge e from to) g = true
+changes (SetEdgeProp e name value) g = not (same_value (value_at name (object_at g (Edge e))) (kept value))
 
 -- each write is possible where it stands, and changes the graph there
 unfoldable pub are_sound : List Op → Graph → Bool

@@ -17,7 +17,10 @@ use Rattle.world_model.specs.declared.answer.Wrote.{Wrote}
 use Rattle.world_model.specs.declared.answer.Wrote.TheVariants as wrote
 use Rattle.world_model.specs.declared.answer.Refused.{Refused}
 use Rattle.world_model.specs.declared.answer.Refused.TheVariants.{NoTxn, AlreadyOpen, Missing, Conflict, ClockEnd, TooMany, IdEnd, NoMemory}
-use Rattle.world_model.specs.Op.{Op, create_vertex, set_vertex_property, set_edge_property, touches, changes}
+use Rattle.undo_delta.specs.Touch.{touches}
+use Rattle.undo_delta.specs.declared.op.Op.{Op}
+use Rattle.undo_delta.specs.declared.op.Op.TheVariants as op
+use Rattle.world_model.specs.Op.{changes}
 use Rattle.world_model.specs.World.{World, Txn, view_of, txn_of, rival_at, transactions_of}
 
 -- an answer, and the world after it
@@ -60,9 +63,9 @@ named (SetEdgeProp e k x) = oid.Edge e ∷ []
 
 -- the write that is asked for: a created vertex gets the number that the counter stands at
 abbrev pub op_of : World → Ask → Op
-op_of w CreateVertex = create_vertex (record { 0 = w.vertices })
-op_of w (SetVertexProp v k x) = set_vertex_property v k x
-op_of w (SetEdgeProp e k x) = set_edge_property e k x
+op_of w CreateVertex = op.CreateVertex (record { 0 = w.vertices })
+op_of w (SetVertexProp v k x) = op.SetVertexProp v k x
+op_of w (SetEdgeProp e k x) = op.SetEdgeProp e k x
 
 -- the first of the objects that isn't in the graph
 abbrev pub missing : Graph → List Oid → Option Refused
@@ -89,10 +92,10 @@ abbrev pub write_refusal : World → Txn → Ask → Option Refused
 write_refusal w p ask = or_else (missing (view_of w p) (named ask)) (or_else (conflict w p (touches (op_of w ask))) (id_end w ask))
 
 -- what is answered to a write that changes the graph
-abbrev pub wrote_of : Op → Wrote
-wrote_of (create_vertex v) = wrote.Vertex v
-wrote_of (set_vertex_property v k x) = wrote.Done
-wrote_of (set_edge_property e k x) = wrote.Done
+abbrev pub wrote_of : World → Ask → Wrote
+wrote_of w CreateVertex = wrote.Vertex (record { 0 = w.vertices })
+wrote_of w (SetVertexProp v k x) = wrote.Done
+wrote_of w (SetEdgeProp e k x) = wrote.Done
 
 -- the caller's transaction with one more write
 unfoldable pub with_op : List Txn → ℕ → Op → List Txn
@@ -100,21 +103,21 @@ with_op [] caller op = []
 with_op (p ∷ ps) caller op = if nat_eq p.caller caller then record p { ops = p.ops ++ op ∷ [] } ∷ ps else p ∷ with_op ps caller op
 
 -- how many vertices a write makes
-abbrev pub vertices_made : Op → ℕ
-vertices_made (create_vertex v) = 1
-vertices_made (set_vertex_property v k x) = 0
-vertices_made (set_edge_property e k x) = 0
+abbrev pub vertices_made : Ask → ℕ
+vertices_made CreateVertex = 1
+vertices_made (SetVertexProp v k x) = 0
+vertices_made (SetEdgeProp e k x) = 0
 
-abbrev pub written_world : World → ℕ → Op → World
-written_world w caller op = record w { vertices = w.vertices + vertices_made op; running = with_op w.running caller op }
+abbrev pub written_world : World → ℕ → Ask → World
+written_world w caller ask = record w { vertices = w.vertices + vertices_made ask; running = with_op w.running caller (op_of w ask) }
 
 -- a write that changes nothing is no write
-abbrev pub effect_step : World → ℕ → Op → Bool → Outcome
-effect_step w caller op changed = if changed then record { reply = answer.Wrote (wrote_of op); world = written_world w caller op } else record { reply = answer.Wrote wrote.Unchanged; world = w }
+abbrev pub effect_step : World → ℕ → Ask → Bool → Outcome
+effect_step w caller ask changed = if changed then record { reply = answer.Wrote (wrote_of w ask); world = written_world w caller ask } else record { reply = answer.Wrote wrote.Unchanged; world = w }
 
 abbrev pub allowed_write_step : World → Txn → ℕ → Ask → Option Refused → Outcome
 allowed_write_step w p caller ask (Some why) = refused w why
-allowed_write_step w p caller ask None = effect_step w caller (op_of w ask) (changes (op_of w ask) (view_of w p))
+allowed_write_step w p caller ask None = effect_step w caller ask (changes (op_of w ask) (view_of w p))
 
 abbrev pub write_step : World → ℕ → Ask → Option Txn → Outcome
 write_step w caller ask None = refused w NoTxn

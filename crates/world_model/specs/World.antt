@@ -6,7 +6,8 @@ use Rattle.graph_record.specs.Graph.{Graph, empty_graph}
 use Rattle.txn_manager.specs.declared.rivals.Rival.{Rival}
 use Rattle.txn_manager.specs.Transactions.{Transactions, IsReady}
 use Rattle.txn_manager.specs.Conflict.{rival_of}
-use Rattle.world_model.specs.Op.{Op, apply_all, are_touching, are_sound, are_below}
+use Rattle.undo_delta.specs.declared.op.Op.{Op}
+use Rattle.world_model.specs.Op.{apply_all, are_touching, are_sound, are_below}
 
 -- the writes of one transaction, and the timestamp under which they stand
 pub record Commit : Type 0 where

@@ -1,9 +1,14 @@
 //! Laws over the definitions. Each is a function that does nothing: its contract is the law, proved for every world.
 
-ghost use Rattle.std.specs.Prelude.{◌≡◌, ℕ, List, Some, map, IsTrue};
-ghost use Rattle.graph_record.specs.Graph.{IsCoherent};
+ghost use Rattle.std.specs.Prelude.{◌≡◌, ◌↔◌, true, false, ℕ, List, Some, map, IsTrue};
+ghost use Rattle.graph_value.specs.declared.id.Oid.{Oid};
+ghost use Rattle.graph_record.specs.Graph.{Graph, IsCoherent, object_at};
+ghost use Rattle.undo_delta.specs.Form.{IsForm};
+ghost use Rattle.undo_delta.specs.declared.op.Op.{Op};
 ghost use Rattle.world_model.specs.declared.event.Event.{Event};
-ghost use Rattle.world_model.specs.World.{World, Start, Txn, InOrder, start_world, txn_of, view_of, graph_at, rises};
+ghost use Rattle.world_model.specs.Op.{apply, is_possible, changes};
+ghost use Rattle.world_model.specs.World.{World, Start, Txn, InOrder, start_world, txn_of, view_of, fold_of, graph_at, rises};
+ghost use Rattle.world_model.specs.Undo.{undo_list, undone_above};
 ghost use Rattle.world_model.specs.Step.{step};
 ghost use Rattle.world_model.specs.History.{Entry, IsStart, IsLegal, run, stamps_given};
 
@@ -29,4 +34,16 @@ pub fn commits_rise()
         map (λ c. c.ts) (run (start_world s) es).commits ≡ stamps_given (start_world s) es }
     ensures rise { (s : Start) (es : List Entry) → IsStart s → IsLegal s es →
         IsTrue (rises (stamps_given (start_world s) es)) }
+{}
+
+/// An object at an instant is the object after all commits with its deltas above that instant undone, the newest first.
+pub fn deltas_lead_back()
+    ensures { (w : World) (t : ℕ) (x : Oid) → InOrder w →
+        object_at (graph_at w.commits t) x ≡ undone_above t (object_at (fold_of w.commits) x) (undo_list w x) }
+{}
+
+/// A possible write changes the graph exactly where it changes an object: one that doesn't leaves each object as it was.
+pub fn effects_are_seen()
+    ensures { (op : Op) (g : Graph) → ((x : Oid) → IsForm (object_at g x)) → is_possible op g ≡ true →
+        (changes op g ≡ false) ↔ ((x : Oid) → object_at (apply op g) x ≡ object_at g x) }
 {}

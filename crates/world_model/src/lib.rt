@@ -7,4 +7,7 @@ mod law;
 
 pub use answer::{Answer, Refused, Wrote};
 pub use event::{Ask, Event, When};
-pub use law::{commits_rise, graphs_are_coherent, histories_keep_order, steps_keep_order};
+pub use law::{
+    commits_rise, deltas_lead_back, effects_are_seen, graphs_are_coherent, histories_keep_order,
+    steps_keep_order,
+};

@@ -2,6 +2,7 @@ ghost use Rattle.graph_shell.specs.Reply.{IsAnswerTo};
 
 use super::*;
 use graph_record::VertexRecord;
+use graph_value::{EdgeId, VertexId};
 use std::test::Fail;
 
 fn reply(alloc: Global, caller: u64, asked: Option<Oid>, answer: Answer) -> Result<String, NoMemory>

@@ -43,8 +43,10 @@ fn tell_object(out: &mut String, x: Oid) -> Result<(), NoMemory> {
 }
 
 fn tell_value(out: &mut String, name: &str, value: &Value) -> Result<(), NoMemory> {
-    let Value::Int(n) = value;
-    write!(out, ": {name} is {n}")
+    match value {
+        Value::Int(n) => write!(out, ": {name} is {n}"),
+        _ => write!(out, ": {name} is no integer"),
+    }
 }
 
 #[test]

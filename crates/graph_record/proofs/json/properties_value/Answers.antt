@@ -13,7 +13,7 @@ loop-name-preserved c =
     let next = put_next c.args.properties.now l.name-index item c.requires c.loop-name-test.true in
     let read = sym c.loop-name-item.is in
     let here = rw read at next in
-    c.in_ok-put.ensures.ok ∙ rw (c.as_str.ensures.text, c.property_value.ensures, l.invariant, add-one) here
+    c.in_ok-put.ensures.ok ∙ rw (c.as_str.ensures.text, c.in_ok-property_value.ensures, l.invariant, add-one) here
 
 pub returns : goal.returns
 returns c =

@@ -1,5 +1,6 @@
 use Rattle.std.proofs.Common.{◌≡◌, ◌++◌, codes, string_bytes, ap, ◌∙◌, append_assoc}
-use Rattle.graph_shell.specs.Reply.{oid_text, rival_text}
+use Rattle.graph_value.specs.Id.{oid_text}
+use Rattle.graph_shell.specs.Reply.{rival_text}
 use Rattle.graph_shell.proofs.Pushed.{pushed_after}
 use Rattle.graph_shell.proofs.reply.push_conflict.Goals as goal
 

@@ -1,5 +1,5 @@
 use Rattle.std.proofs.Common.{codes, string_bytes}
-use Rattle.graph_shell.specs.Reply.{oid_text}
+use Rattle.graph_value.specs.Id.{oid_text}
 use Rattle.graph_shell.proofs.Pushed.{pushed, pushed_after}
 use Rattle.graph_shell.proofs.reply.push_refused.Goals as goal
 

@@ -4,11 +4,11 @@ use Rattle.graph_record.proofs.Place.{find_at, find_gap}
 use Rattle.graph_record.proofs.properties.Properties.get.Goals as goal
 
 -- the name is at its place, and the property there is the one that was read
-pub returns-in-Ok : goal.returns-in-Ok
-returns-in-Ok c =
+pub returns-in-Ok-clause-value : goal.returns-in-Ok-clause-value
+returns-in-Ok-clause-value c =
     let found = find_at nat_list_cmp_total _ _ _ c.index.result.now c.in-Ok.ensures.found in
     ap (λ property. Some property.1) (rw c.self.view_is at c.index.ensures) ∙ sym found
 
 -- the name is not there
-pub returns-in-Err : goal.returns-in-Err
-returns-in-Err c = sym (find_gap nat_list_cmp_total _ _ _ c.in-Err.ensures.absent)
+pub returns-in-Err-clause-value : goal.returns-in-Err-clause-value
+returns-in-Err-clause-value c = sym (find_gap nat_list_cmp_total _ _ _ c.in-Err.ensures.absent)

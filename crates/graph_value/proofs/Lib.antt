@@ -1,0 +1,5 @@
+pub mod Levels
+pub mod EqualsLemmas
+pub mod OrderLaws
+pub mod OrderLemmas
+pub mod SizeLemmas

@@ -1,0 +1,4 @@
+pub mod Touch
+pub mod Apply
+pub mod Change
+pub mod Form

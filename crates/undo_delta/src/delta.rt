@@ -1,0 +1,64 @@
+ghost use Rattle.std.specs.Prelude.{◌≡◌, None, IfOk};
+
+use crate::NoMemory;
+use graph_record::Object;
+use graph_value::{EdgeId, Name, Value};
+use std::alloc::Global;
+
+/// What undoes one change of one object.
+#[derive(Debug, Drop)]
+pub enum Delta {
+    /// The object was created.
+    DeleteObject,
+    /// The object was deleted, and was this one.
+    RecreateObject(Object),
+    AddLabel(Name),
+    RemoveLabel(Name),
+    /// The property had this value, or null where there was no such property.
+    SetProperty(Name, Value),
+    AddInEdge(EdgeId),
+    AddOutEdge(EdgeId),
+    RemoveInEdge(EdgeId),
+    RemoveOutEdge(EdgeId),
+}
+
+impl Delta {
+    /// The same delta, in memory of its own.
+    pub fn copy(&self, alloc: Global) -> Result<Delta, NoMemory>
+        ensures { IfOk result (λ d. d ≡ self.now) }
+    {
+        match self {
+            Delta::DeleteObject => Ok(Delta::DeleteObject),
+            Delta::RecreateObject(object) => Ok(Delta::RecreateObject(object.copy(alloc)?)),
+            Delta::AddLabel(name) => Ok(Delta::AddLabel(name.copy(alloc)?)),
+            Delta::RemoveLabel(name) => Ok(Delta::RemoveLabel(name.copy(alloc)?)),
+            Delta::SetProperty(name, value) => {
+                Ok(Delta::SetProperty(name.copy(alloc)?, value.copy(alloc)?))
+            }
+            Delta::AddInEdge(id) => Ok(Delta::AddInEdge(*id)),
+            Delta::AddOutEdge(id) => Ok(Delta::AddOutEdge(*id)),
+            Delta::RemoveInEdge(id) => Ok(Delta::RemoveInEdge(*id)),
+            Delta::RemoveOutEdge(id) => Ok(Delta::RemoveOutEdge(*id)),
+        }
+    }
+}
+
+/// What undoes all that a write did to one object: no delta, one, or two.
+#[derive(Debug, Drop)]
+pub struct DeltaPair {
+    /// The older delta, undone last. `None` exactly where the write changed nothing.
+    pub first: Option<Delta>,
+    /// The newer delta, undone first. Only an edge from a vertex to itself leaves two.
+    pub second: Option<Delta>,
+}
+
+impl DeltaPair {
+    pub(crate) fn of(first: Option<Delta>) -> DeltaPair
+        ensures { result ≡ record { first = first; second = None } }
+    {
+        DeltaPair {
+            first,
+            second: None,
+        }
+    }
+}
