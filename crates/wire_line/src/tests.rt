@@ -1,7 +1,4 @@
-use crate::{
-    INPUT_LIMIT, Line, Lines, MemorySink, MemorySource, Reading, SameBytes, Source, Writing,
-    write_whole,
-};
+use crate::{Line, Lines, MemorySink, MemorySource, Reading, Source, Writing, write_whole};
 use std::alloc::{AllocError, Global};
 use std::test::Fail;
 
@@ -96,49 +93,6 @@ fn lines_are_read(rt: HostRuntime) -> Result<(), Fail> {
         let mut source = MemorySource::new(case.input.to_vec(alloc)?, case.piece.max(1), failing);
         assert_eq!(rt; answers(alloc, &mut source)?.as_slice(), case.want);
     }
-    Ok(())
-}
-
-// A line of this many bytes, and then "z" without a line end.
-fn long_input(alloc: Global, length: usize) -> Result<Vec<u8>, AllocError> {
-    let mut bytes = vec![in alloc; b'x'; length]?;
-    bytes.push(b'\n')?;
-    bytes.push(b'z')?;
-    Ok(bytes)
-}
-
-#[test]
-fn the_longest_line_is_given(rt: HostRuntime) -> Result<(), Fail> {
-    let alloc = rt.alloc();
-    let mut source = MemorySource::new(long_input(alloc, 65_536)?, 100_000, Vec::new(alloc));
-    let said = answers(alloc, &mut source)?;
-    assert_eq!(rt; said.len(), 65_536 + 1 + 2 + 3);
-    assert!(rt; said.as_slice().ends_with(b"x|z|end"));
-    Ok(())
-}
-
-#[test]
-fn a_longer_line_is_passed_over(rt: HostRuntime) -> Result<(), Fail> {
-    let alloc = rt.alloc();
-    for length in [65_537, 400_000] {
-        let mut source = MemorySource::new(long_input(alloc, length)?, 1_000, Vec::new(alloc));
-        assert_eq!(rt;
-            answers(alloc, &mut source)?.as_slice(),
-            b"too long|z|end".as_slice()
-        );
-    }
-    Ok(())
-}
-
-#[test]
-fn input_ends_at_its_limit(rt: HostRuntime) -> Result<(), Fail> {
-    let mut lines = Lines::new(rt.alloc())?;
-    let mut source = SameBytes::new(b'\n', INPUT_LIMIT + 1);
-    for _ in 0..INPUT_LIMIT {
-        assert!(rt; matches!(lines.next(&mut source), Line::Whole(_)));
-    }
-    assert_eq!(rt; lines.next(&mut source), Line::Limit);
-    assert_eq!(rt; lines.next(&mut source), Line::Limit);
     Ok(())
 }
 
