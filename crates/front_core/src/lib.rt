@@ -4,6 +4,7 @@
 mod beginning;
 mod decision;
 mod ending;
+mod law;
 mod reads;
 mod row;
 mod state;
@@ -11,6 +12,7 @@ mod version;
 mod writes;
 mod writing;
 
+pub use law::histories_are_legal;
 pub use state::Core;
 use std::alloc::AllocError;
 

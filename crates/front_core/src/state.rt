@@ -1,4 +1,4 @@
-ghost use Rattle.std.specs.Prelude.{◌≡◌, ◌≤◌, ◌^◌, ℕ, List, [], ◌∷◌, ◌++◌, IfOk, IsOk};
+ghost use Rattle.std.specs.Prelude.{◌≡◌, ◌≤◌, ℕ, List, [], ◌∷◌, ◌++◌, IfOk, IsOk};
 ghost use Rattle.world_model.specs.World.{Start, start_world};
 ghost use Rattle.world_model.specs.History.{Entry, IsAnswered, run};
 ghost use Rattle.world_model.specs.Replies.{IsReplyTo};
@@ -8,8 +8,8 @@ use crate::row::Row;
 use crate::writes::Writes;
 use std::alloc::Global;
 use std::marker::Model;
-use txn_manager::Active;
-use world_model::{Answer, Ask, Event, When};
+use txn_manager::{Active, CLOCK_END};
+use world_model::{Answer, Ask, Event, ID_END, When};
 
 /// The store as one state, which callers change step by step.
 ///
@@ -64,9 +64,9 @@ impl Core {
         requires at_least { 1 ≤ k }
         requires at_most { k ≤ 1024 }
         requires begun { 1 ≤ clock }
-        requires clock_range { clock ≤ 2 ^ 62 }
-        requires vertex_range { vertices ≤ 2 ^ 62 }
-        requires edge_range { edges ≤ 2 ^ 62 }
+        requires clock_range { clock ≤ CLOCK_END }
+        requires vertex_range { vertices ≤ ID_END }
+        requires edge_range { edges ≤ ID_END }
         ensures { IfOk result (λ core. StandsFor (record { clock = clock; vertices = vertices; edges = edges }) core []) }
     {
         let _ = k;

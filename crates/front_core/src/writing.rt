@@ -26,10 +26,7 @@ use graph_value::{Name, Oid, Value, VertexId};
 use std::alloc::Global;
 use txn_manager::{Rival, rival};
 use undo_delta::is_kept_value;
-use world_model::{Answer, Ask, Event, Refused, Wrote};
-
-/// The number at which no id is left.
-const ID_END: u64 = 1 << 62;
+use world_model::{Answer, Ask, Event, ID_END, Refused, Wrote};
 
 impl Core {
     /// Does the write that the caller asks for.

@@ -1,6 +1,7 @@
 -- The clock and the open transactions.
-use Rattle.std.specs.Prelude.{◌≢◌, ℕ, ◌+◌, ◌^◌, ◌<◌, ◌≤◌, min, Option, Some, None, is_some, List, [], ◌∷◌, ◌++◌, length, fold, All, AllPairs, nat_lt, nat_le, if◌then◌else◌}
+use Rattle.std.specs.Prelude.{◌≢◌, ℕ, ◌+◌, ◌<◌, ◌≤◌, min, Option, Some, None, is_some, List, [], ◌∷◌, ◌++◌, length, fold, All, AllPairs, nat_lt, nat_le, if◌then◌else◌}
 use Rattle.txn_manager.specs.RunningList.{start_of}
+use Rattle.txn_manager.specs.declared.TheConstants.{CLOCK_END, MOST_OPEN}
 use Rattle.txn_manager.specs.declared.running.Running.{Running}
 use Rattle.txn_manager.specs.declared.refusals.BeginRefused.{BeginRefused}
 use Rattle.txn_manager.specs.declared.refusals.BeginRefused.TheVariants.{AlreadyOpen, TooMany, ClockEnd}
@@ -14,8 +15,8 @@ pub record Transactions : Type 0 where
 pub record IsReady (s : Transactions) : Type 0 where
   pub begun : 1 ≤ s.clock
   -- each open transaction can still be finished at a time of its own
-  pub room : s.clock + length s.running ≤ 2 ^ 62
-  pub few : length s.running ≤ 1024
+  pub room : s.clock + length s.running ≤ CLOCK_END
+  pub few : length s.running ≤ MOST_OPEN
   pub started : All (λ t. 1 ≤ t.start) s.running
   pub past : All (λ t. t.start < s.clock) s.running
   pub ascending : AllPairs (λ t u. t.start < u.start) s.running
@@ -25,8 +26,8 @@ pub record IsReady (s : Transactions) : Type 0 where
 abbrev pub begin_refusal : Transactions → ℕ → Option BeginRefused
 begin_refusal s caller =
     if is_some (start_of s.running caller) then Some AlreadyOpen
-    else if nat_le 1024 (length s.running) then Some TooMany
-    else if nat_lt (2 ^ 62) (s.clock + length s.running + 2) then Some ClockEnd
+    else if nat_le MOST_OPEN (length s.running) then Some TooMany
+    else if nat_lt CLOCK_END (s.clock + length s.running + 2) then Some ClockEnd
     else None
 
 -- a transaction of the caller has begun at the clock, which rose by one

@@ -1,4 +1,4 @@
-ghost use Rattle.std.specs.Prelude.{◌≡◌, ◌≤◌, ◌^◌, ◌+◌, ◌⊎◌, [], length, IsTrue, IsFalse, IsSome, IfSome, IfOk, IfErr, OnOk, OnErr, if◌then◌else◌};
+ghost use Rattle.std.specs.Prelude.{◌≡◌, ◌≤◌, ◌+◌, ◌⊎◌, [], length, IsTrue, IsFalse, IsSome, IfSome, IfOk, IfErr, OnOk, OnErr, if◌then◌else◌};
 ghost use Rattle.txn_manager.specs.RunningList.{start_of, without};
 ghost use Rattle.txn_manager.specs.Transactions.{IsReady, begin_refusal, begun, mark_of};
 
@@ -28,7 +28,7 @@ impl Active {
     /// A clock from 1 to `CLOCK_END`, with no open transaction.
     pub fn new(alloc: Global, clock: u64) -> Active
         requires begun { 1 ≤ clock }
-        requires in_range { clock ≤ 2 ^ 62 }
+        requires in_range { clock ≤ CLOCK_END }
         ensures value { result ≡ record { clock = clock; running = [] } }
         ensures ready { IsReady result }
     {

@@ -28,7 +28,7 @@ unfolding run AreAnswered
 answered-append w [] e h a = (a, tt)
 answered-append w (d ∷ es) e h a = (h.0, answered-append (world_after w d) es e h.1 a)
 
-entry_keeps_order : (w : World) (e : Entry) → InOrder w → InOrder (world_after w e)
+pub entry_keeps_order : (w : World) (e : Entry) → InOrder w → InOrder (world_after w e)
 entry_keeps_order w e o = pick (is_no_memory e.reply)
   where
     pick : (b : Bool) → InOrder (cond b w (step w e.caller e.event).world)

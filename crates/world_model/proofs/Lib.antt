@@ -14,4 +14,9 @@ pub mod Histories
 pub mod Replies
 pub mod Effects
 pub mod Undo
+pub mod Marks
+pub mod Answered
 mod Worked
+mod Network
+mod WorkedGraphs
+mod WorkedSteps

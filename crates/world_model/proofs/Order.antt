@@ -82,7 +82,7 @@ front_passes P early (c ∷ cs) h = by_test (front_passes P early cs (and_right_
         let none : filter (λ c. P c.ts) cs ≡ [] = none_passes P early c.ts cs e (and_left_true _ _ h) in
         (c ∷ cs, ap (λ ds. ds ++ c ∷ cs) (sym none) ∙ ap (λ b. cond b (c ∷ filter (λ c. P c.ts) cs) (filter (λ c. P c.ts) cs) ++ c ∷ cs) (sym e))
 
-front_sound : (w : World) → InOrder w → (P : ℕ → Bool) → ((a b : ℕ) → nat_lt a b ≡ true → P b ≡ true → P a ≡ true) → are_sound (ops_of (filter (λ c. P c.ts) w.commits)) empty_graph ≡ true
+pub front_sound : (w : World) → InOrder w → (P : ℕ → Bool) → ((a b : ℕ) → nat_lt a b ≡ true → P b ≡ true → P a ≡ true) → are_sound (ops_of (filter (λ c. P c.ts) w.commits)) empty_graph ≡ true
 front_sound w o P early =
     let front = front_passes P early w.commits o.ascending in
     let some : List Commit = filter (λ c. P c.ts) w.commits in

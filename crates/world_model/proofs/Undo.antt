@@ -62,7 +62,7 @@ rest_sound : (op : Op) (ops : List Op) (g : Graph) → are_sound (op ∷ ops) g 
 unfolding are_sound
 rest_sound op ops g h = and_right_true (is_possible op g && changes op g) (are_sound ops (apply op g)) h
 
-writes_form : (ops : List Op) (g : Graph) (x : Oid) → are_sound ops g ≡ true → IsForm (object_at g x) → IsForm (object_at (apply_all ops g) x)
+pub writes_form : (ops : List Op) (g : Graph) (x : Oid) → are_sound ops g ≡ true → IsForm (object_at g x) → IsForm (object_at (apply_all ops g) x)
 unfolding apply_all
 writes_form [] g x sound form = form
 writes_form (op ∷ ops) g x sound form = writes_form ops (apply op g) x (rest_sound op ops g sound) (write_form op g x (first_possible op ops g sound) form)

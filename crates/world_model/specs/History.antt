@@ -1,5 +1,7 @@
 -- Histories: who asked what and was answered what, and which of them the store may have.
-use Rattle.std.specs.Prelude.{◌≡◌, ℕ, ◌≤◌, ◌^◌, List, [], ◌∷◌, ◌++◌, Option, Some, None, Bool, true, false, not, ◌&&◌, ◌⊎◌, if◌then◌else◌}
+use Rattle.std.specs.Prelude.{◌≡◌, ℕ, ◌≤◌, List, [], ◌∷◌, ◌++◌, Option, Some, None, Bool, true, false, not, ◌&&◌, ◌⊎◌, if◌then◌else◌}
+use Rattle.txn_manager.specs.declared.TheConstants.{CLOCK_END}
+use Rattle.world_model.specs.declared.TheConstants.{ID_END}
 use Rattle.world_model.specs.declared.event.Event.{Event}
 use Rattle.world_model.specs.declared.event.Event.TheVariants as event
 use Rattle.world_model.specs.declared.answer.Answer.{Answer}
@@ -106,6 +108,6 @@ stamps_given w (e ∷ es) = stamp_given w e e.event ++ stamps_given (world_after
 
 -- the numbers that a store may begin with
 pub record IsStart (s : Start) : Type 0 where
-  pub clock : (1 ≤ s.clock) × (s.clock ≤ 2 ^ 62)
-  pub vertices : s.vertices ≤ 2 ^ 62
-  pub edges : s.edges ≤ 2 ^ 62
+  pub clock : (1 ≤ s.clock) × (s.clock ≤ CLOCK_END)
+  pub vertices : s.vertices ≤ ID_END
+  pub edges : s.edges ≤ ID_END

@@ -1,5 +1,5 @@
 -- What a write makes of a graph, and where it may stand.
-use Rattle.std.specs.Prelude.{ℕ, List, [], ◌∷◌, Option, Some, None, Bool, true, not, ◌&&◌, nat_lt}
+use Rattle.std.specs.Prelude.{◌≡◌, ℕ, List, [], ◌∷◌, Option, Some, None, Bool, true, not, ◌&&◌, nat_lt}
 use Rattle.std.specs.List.{list_any, list_all}
 use Rattle.std.specs.FinMap.{find, put}
 use Rattle.graph_value.specs.Name.{name_cmp}
@@ -78,6 +78,10 @@ changes (SetVertexProp v name value) g = not (same_value (value_at name (object_
 changes (CreateEdge e from kind to) g = true
 changes (DeleteEdge e from to) g = true
 changes (SetEdgeProp e name value) g = not (same_value (value_at name (object_at g (Edge e))) (kept value))
+
+-- two graphs with the same object under each id
+abbrev pub SameObjects : Graph → Graph → Type 0
+SameObjects g h = (x : Oid) → object_at h x ≡ object_at g x
 
 -- each write is possible where it stands, and changes the graph there
 unfoldable pub are_sound : List Op → Graph → Bool

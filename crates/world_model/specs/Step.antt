@@ -1,5 +1,5 @@
 -- One step of the store: what it answers to a caller's event, and the world afterwards, where memory isn't wanting.
-use Rattle.std.specs.Prelude.{ℕ, ◌+◌, ◌^◌, List, [], ◌∷◌, ◌++◌, Option, Some, None, Bool, nat_eq, nat_le, not, filter, if◌then◌else◌}
+use Rattle.std.specs.Prelude.{ℕ, ◌+◌, List, [], ◌∷◌, ◌++◌, Option, Some, None, Bool, nat_eq, nat_le, not, filter, if◌then◌else◌}
 use Rattle.graph_value.specs.declared.id.Oid.{Oid}
 use Rattle.graph_value.specs.declared.id.Oid.TheVariants as oid
 use Rattle.graph_record.specs.Graph.{Graph, object_at, is_dead}
@@ -7,6 +7,7 @@ use Rattle.txn_manager.specs.declared.rivals.Rival.{Rival}
 use Rattle.txn_manager.specs.declared.refusals.BeginRefused.{BeginRefused}
 use Rattle.txn_manager.specs.declared.refusals.BeginRefused.TheVariants as begin
 use Rattle.txn_manager.specs.Transactions.{begin_refusal}
+use Rattle.world_model.specs.declared.TheConstants.{ID_END}
 use Rattle.world_model.specs.declared.event.Ask.{Ask}
 use Rattle.world_model.specs.declared.event.Ask.TheVariants.{CreateVertex, SetVertexProp, SetEdgeProp}
 use Rattle.world_model.specs.declared.event.Event.{Event}
@@ -83,7 +84,7 @@ conflict w p (x ∷ xs) = or_else (conflict_at x (rival_at w p x)) (conflict w p
 
 -- no number is left for a new object
 abbrev pub id_end : World → Ask → Option Refused
-id_end w CreateVertex = if nat_le (2 ^ 62) w.vertices then Some IdEnd else None
+id_end w CreateVertex = if nat_le ID_END w.vertices then Some IdEnd else None
 id_end w (SetVertexProp v k x) = None
 id_end w (SetEdgeProp e k x) = None
 
@@ -111,9 +112,13 @@ vertices_made (SetEdgeProp e k x) = 0
 abbrev pub written_world : World → ℕ → Ask → World
 written_world w caller ask = record w { vertices = w.vertices + vertices_made ask; running = with_op w.running caller (op_of w ask) }
 
+-- the answer to a write that would leave the graph as it is
+abbrev pub unchanged : Answer
+unchanged = answer.Wrote wrote.Unchanged
+
 -- a write that changes nothing is no write
 abbrev pub effect_step : World → ℕ → Ask → Bool → Outcome
-effect_step w caller ask changed = if changed then record { reply = answer.Wrote (wrote_of w ask); world = written_world w caller ask } else record { reply = answer.Wrote wrote.Unchanged; world = w }
+effect_step w caller ask changed = if changed then record { reply = answer.Wrote (wrote_of w ask); world = written_world w caller ask } else record { reply = unchanged; world = w }
 
 abbrev pub allowed_write_step : World → Txn → ℕ → Ask → Option Refused → Outcome
 allowed_write_step w p caller ask (Some why) = refused w why

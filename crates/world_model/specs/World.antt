@@ -1,10 +1,11 @@
 -- The world: the clock, the id counters, the commits in order of time, and the open transactions with their writes.
-use Rattle.std.specs.Prelude.{◌≡◌, ◌≢◌, ℕ, ◌≤◌, ◌^◌, List, [], ◌∷◌, Option, Some, None, Bool, true, false, not, ◌&&◌, map, filter, nat_eq, nat_lt, nat_le, max, option_map, fold, if◌then◌else◌}
+use Rattle.std.specs.Prelude.{◌≡◌, ◌≢◌, ℕ, ◌≤◌, List, [], ◌∷◌, Option, Some, None, Bool, true, false, not, ◌&&◌, map, filter, nat_eq, nat_lt, nat_le, max, option_map, fold, if◌then◌else◌}
 use Rattle.std.specs.List.{list_any, list_all, flat_map}
 use Rattle.graph_value.specs.declared.id.Oid.{Oid}
 use Rattle.graph_record.specs.Graph.{Graph, empty_graph}
+use Rattle.world_model.specs.declared.TheConstants.{ID_END}
 use Rattle.txn_manager.specs.declared.rivals.Rival.{Rival}
-use Rattle.txn_manager.specs.Transactions.{Transactions, IsReady}
+use Rattle.txn_manager.specs.Transactions.{Transactions, IsReady, mark_of}
 use Rattle.txn_manager.specs.Conflict.{rival_of}
 use Rattle.undo_delta.specs.declared.op.Op.{Op}
 use Rattle.world_model.specs.Op.{apply_all, are_touching, are_sound, are_below}
@@ -87,6 +88,11 @@ rival_at w p x = rival_of p.start (option_map (λ q. q.start) (other_writer w.ru
 abbrev pub transactions_of : World → Transactions
 transactions_of w = record { clock = w.clock; running = map (λ p. record { caller = p.caller; start = p.start }) w.running }
 
+-- The mark: the least start of the open transactions, or the clock where none is open. Nothing that is open, or begins
+-- later, reads the store as it was before.
+abbrev pub mark : World → ℕ
+mark w = mark_of (transactions_of w)
+
 -- whether a commit above the timestamp touches the object
 unfoldable pub touched_after : ℕ → List Commit → Oid → Bool
 touched_after t commits x = list_any (λ c. nat_lt t c.ts && are_touching c.ops x) commits
@@ -105,7 +111,7 @@ stamps_ascend (c ∷ cs) = list_all (λ d. nat_lt c.ts d.ts) cs && stamps_ascend
 pub record InOrder (w : World) : Type 0 where
   -- the clock is above each start, and has room for each open transaction to end; callers and starts differ
   pub ready : IsReady (transactions_of w)
-  pub counters : (w.vertices ≤ 2 ^ 62) × (w.edges ≤ 2 ^ 62)
+  pub counters : (w.vertices ≤ ID_END) × (w.edges ≤ ID_END)
   pub ascending : stamps_ascend w.commits ≡ true
   pub stamped : list_all (λ c. nat_le 1 c.ts && nat_lt c.ts w.clock) w.commits ≡ true
   -- no start is a timestamp

@@ -1,15 +1,18 @@
 //! Laws over the definitions. Each is a function that does nothing: its contract is the law, proved for every world.
 
-ghost use Rattle.std.specs.Prelude.{◌≡◌, ◌↔◌, true, false, ℕ, List, Some, map, IsTrue};
+ghost use Rattle.std.specs.Prelude.{◌≡◌, ◌≤◌, ◌↔◌, ◌++◌, true, false, ℕ, List, Some, None, map, IsTrue};
 ghost use Rattle.graph_value.specs.declared.id.Oid.{Oid};
 ghost use Rattle.graph_record.specs.Graph.{Graph, IsCoherent, object_at};
+ghost use Rattle.undo_delta.specs.Change.{changed};
 ghost use Rattle.undo_delta.specs.Form.{IsForm};
+ghost use Rattle.undo_delta.specs.Touch.{is_touched};
+ghost use Rattle.world_model.specs.declared.event.Ask.{Ask};
 ghost use Rattle.undo_delta.specs.declared.op.Op.{Op};
 ghost use Rattle.world_model.specs.declared.event.Event.{Event};
-ghost use Rattle.world_model.specs.Op.{apply, is_possible, changes};
-ghost use Rattle.world_model.specs.World.{World, Start, Txn, InOrder, start_world, txn_of, view_of, fold_of, graph_at, rises};
+ghost use Rattle.world_model.specs.Op.{apply, is_possible, changes, SameObjects};
+ghost use Rattle.world_model.specs.World.{World, Start, Txn, InOrder, start_world, txn_of, view_of, fold_of, graph_at, rises, mark};
 ghost use Rattle.world_model.specs.Undo.{undo_list, undone_above};
-ghost use Rattle.world_model.specs.Step.{step};
+ghost use Rattle.world_model.specs.Step.{step, op_of, write_refusal, unchanged};
 ghost use Rattle.world_model.specs.History.{Entry, IsStart, IsLegal, run, stamps_given};
 
 /// Every step from a world in order leaves one in order.
@@ -45,5 +48,38 @@ pub fn deltas_lead_back()
 /// A possible write changes the graph exactly where it changes an object: one that doesn't leaves each object as it was.
 pub fn effects_are_seen()
     ensures { (op : Op) (g : Graph) → ((x : Oid) → IsForm (object_at g x)) → is_possible op g ≡ true →
-        (changes op g ≡ false) ↔ ((x : Oid) → object_at (apply op g) x ≡ object_at g x) }
+        (changes op g ≡ false) ↔ SameObjects g (apply op g) }
+{}
+
+/// A write makes of each object that it touches what the definition for one object says, and leaves every other one.
+pub fn writes_change_their_objects()
+    ensures touched { (op : Op) (g : Graph) (x : Oid) → is_touched op x ≡ true →
+        object_at (apply op g) x ≡ changed op x (object_at g x) }
+    ensures others { (op : Op) (g : Graph) (x : Oid) → is_touched op x ≡ false →
+        object_at (apply op g) x ≡ object_at g x }
+{}
+
+/// In a world in order each object has the form of a record, at each instant and in what each open transaction sees.
+pub fn objects_have_form()
+    ensures instants { (w : World) (t : ℕ) (x : Oid) → InOrder w → IsForm (object_at (graph_at w.commits t) x) }
+    ensures views { (w : World) (caller : ℕ) (p : Txn) (x : Oid) → InOrder w → txn_of w caller ≡ Some p →
+        IsForm (object_at (view_of w p) x) }
+{}
+
+/// A write that isn't refused is possible in the caller's view, and `Unchanged` is answered exactly where it would leave
+/// each object of the view as it is.
+pub fn writes_are_answered()
+    ensures possible { (w : World) (caller : ℕ) (p : Txn) (ask : Ask) → InOrder w → txn_of w caller ≡ Some p →
+        write_refusal w p ask ≡ None → is_possible (op_of w ask) (view_of w p) ≡ true }
+    ensures unchanged { (w : World) (caller : ℕ) (p : Txn) (ask : Ask) → InOrder w → txn_of w caller ≡ Some p →
+        write_refusal w p ask ≡ None →
+        ((step w caller (Event.Write ask)).reply ≡ unchanged)
+        ↔ SameObjects (view_of w p) (apply (op_of w ask) (view_of w p)) }
+{}
+
+/// The mark, below which no transaction will ever begin, never falls: no step lowers it, and so no history does.
+pub fn marks_never_fall()
+    ensures steps { (w : World) (caller : ℕ) (event : Event) → InOrder w → mark w ≤ mark (step w caller event).world }
+    ensures histories { (s : Start) (es later : List Entry) → IsStart s →
+        mark (run (start_world s) es) ≤ mark (run (start_world s) (es ++ later)) }
 {}

@@ -5,9 +5,13 @@ mod answer;
 mod event;
 mod law;
 
+/// The end of the two counters of ids: where a counter stands here, no id is left.
+pub const ID_END: u64 = 1 << 62;
+
 pub use answer::{Answer, Refused, Wrote};
 pub use event::{Ask, Event, When};
 pub use law::{
     commits_rise, deltas_lead_back, effects_are_seen, graphs_are_coherent, histories_keep_order,
-    steps_keep_order,
+    marks_never_fall, objects_have_form, steps_keep_order, writes_are_answered,
+    writes_change_their_objects,
 };
