@@ -6,3 +6,4 @@ pub mod Drafted
 pub mod Finished
 pub mod Obeys
 pub mod Decision
+pub mod Drafts

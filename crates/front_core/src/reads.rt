@@ -11,7 +11,6 @@ use crate::row::Row;
 use crate::state::Core;
 use graph_record::Object;
 use graph_value::{Oid, VertexId};
-use std::alloc::Global;
 use world_model::{Answer, Event, Refused, When};
 
 impl Core {
@@ -62,25 +61,25 @@ impl Core {
     }
 
     /// Answers a read of the object in the caller's view.
-    pub(crate) fn read(&self, alloc: Global, caller: u64, x: Oid, when: When) -> Answer
+    pub(crate) fn read(&self, caller: u64, x: Oid, when: When) -> Answer
         ensures { ObeysAll self.now self.now (record { caller = caller; event = Event.Read x when; reply = result }) }
     {
         let Some(start) = self.start_of(caller) else {
             return Answer::Refused(Refused::NoTxn);
         };
-        match copied(alloc, self.seen(caller, start, x)) {
+        match copied(self.seen(caller, start, x)) {
             Ok(object) => Answer::Version(object),
             Err(_) => Answer::Refused(Refused::NoMemory),
         }
     }
 }
 
-/// A copy of the object, dead where there is none.
-pub(crate) fn copied(alloc: Global, object: Option<&Object>) -> Result<Object, NoMemory>
+/// A copy of the object, dead where there is none. It allocates nothing.
+pub(crate) fn copied(object: Option<&Object>) -> Result<Object, NoMemory>
     ensures { IfOk result (λ o. o ≡ unwrap_or (option_copied object.entry) Object.Dead) }
 {
     match object {
-        Some(object) => object.copy(alloc),
+        Some(object) => object.copy(),
         None => Ok(Object::Dead),
     }
 }

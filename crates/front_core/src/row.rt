@@ -51,7 +51,7 @@ impl Row {
         ensures { result ≡ option_map (λ d. d.caller) self.now.draft }
     {
         match &self.draft {
-            Some(draft) => Some(draft.caller),
+            Some(draft) => Some(draft.caller()),
             None => None,
         }
     }
@@ -72,7 +72,7 @@ impl Row {
         ensures { unwrap_or (option_copied result) Object.Dead ≡ seen_object caller start self.now }
     {
         match &self.draft {
-            Some(draft) if draft.caller == caller => Some(&draft.object),
+            Some(draft) if draft.caller() == caller => Some(draft.object()),
             _ => newest_below(&self.committed, start),
         }
     }
@@ -103,7 +103,7 @@ impl Row {
         ensures err { OnErr result (self.new ≡ self.old) }
     {
         match &mut self.draft {
-            Some(draft) => set_property(&mut draft.object, name, value),
+            Some(draft) => draft.set(name, value),
             None => unreachable!(),
         }
     }
@@ -112,8 +112,9 @@ impl Row {
     pub fn commit(&mut self, ts: u64)
         ensures { self.new ≡ committed_as ts self.old.committed self.old.draft }
     {
-        if let Some(Draft { object, .. }) = self.draft.take() {
-            push_in_room(&mut self.committed, Version { ts, object });
+        if let Some(draft) = self.draft.take() {
+            let object = draft.into_object();
+            self.committed.push_reserved(Version { ts, object });
         }
     }
 }
@@ -159,16 +160,5 @@ pub(crate) fn set_property(object: &mut Object, name: Name, value: Value) -> Res
             edge.props.set(name, value)?;
             Ok(())
         }
-    }
-}
-
-/// Adds the version where there is room for it, which takes no memory.
-fn push_in_room(versions: &mut Vec<Version>, version: Version)
-    requires { vec_len versions.old < vec_capacity versions.old }
-    ensures { versions.new.items ≡ versions.old.items ++ version ∷ [] }
-{
-    match versions.push(version) {
-        Ok(()) => {}
-        Err(_) => unreachable!(),
     }
 }

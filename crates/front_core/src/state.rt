@@ -96,7 +96,7 @@ impl Core {
         let _ = &self.first;
         match event {
             Event::Begin => self.begin(caller),
-            Event::Read { x, when } => self.read(alloc, caller, x, when),
+            Event::Read { x, when } => self.read(caller, x, when),
             Event::Write(ask) => self.write(alloc, caller, ask),
             Event::Commit => self.commit(alloc, caller),
         }

@@ -219,13 +219,11 @@ fn draft_new(
 {
     let mut row = Row::new(alloc);
     let object = Object::Vertex(VertexRecord::empty(alloc));
-    row.begin_draft(Draft { caller, object })?;
+    row.begin_draft(Draft::new(alloc, caller, object)?)?;
     rows.reserve(1)?;
     writes.add(alloc, caller, vertex)?;
-    match rows.push(row) {
-        Ok(()) => Ok(()),
-        Err(_) => unreachable!(),
-    }
+    rows.push_reserved(row);
+    Ok(())
 }
 
 /// Sets the property in the caller's draft of the row, which begins with what the caller sees where there is none.
@@ -249,9 +247,9 @@ fn draft_set(
     if row.writer().is_some() {
         return row.set_in_draft(name, value);
     }
-    let mut object = copied(alloc, row.seen(caller, start))?;
+    let mut object = copied(row.seen(caller, start))?;
     set_property(&mut object, name, value)?;
-    row.begin_draft(Draft { caller, object })?;
+    row.begin_draft(Draft::new(alloc, caller, object)?)?;
     match writes.add(alloc, caller, vertex) {
         Ok(()) => Ok(()),
         Err(error) => {

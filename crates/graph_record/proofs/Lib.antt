@@ -1,6 +1,7 @@
 pub mod Edges
+pub mod Front
 pub mod Graphs
 pub mod Place
-pub mod Printed
 pub mod Stored
+pub mod Tokens
 mod Worked

@@ -33,8 +33,11 @@ value_level v = simple_level v
 abbrev pub value_data : Value → Data
 value_data v = value_level (out-Value v)
 
+abbrev pub number_data : ℕ → Data
+number_data n = number (unsigned n)
+
 abbrev pub id_data : EdgeId → Data
-id_data id = number (unsigned id.0)
+id_data id = number_data id.0
 
 abbrev pub ids_data : List EdgeId → Data
 ids_data ids = array (items_of (map id_data ids))
@@ -52,7 +55,7 @@ properties_data props = object (property_members props)
 
 abbrev pub vertex_data : VertexId → VertexRecord → Data
 vertex_data id vertex = object
-    (member (codes "id") (number (unsigned id.0))
+    (member (codes "id") (number_data id.0)
     (member (codes "ins") (ids_data vertex.ins)
     (member (codes "labels") (names_data vertex.labels)
     (member (codes "outs") (ids_data vertex.outs)
@@ -60,10 +63,10 @@ vertex_data id vertex = object
 
 abbrev pub edge_data : EdgeId → EdgeRecord → Data
 edge_data id edge = object
-    (member (codes "from") (number (unsigned edge.from.0))
-    (member (codes "id") (number (unsigned id.0))
+    (member (codes "from") (number_data edge.from.0)
+    (member (codes "id") (number_data id.0)
     (member (codes "properties") (properties_data edge.props)
-    (member (codes "to") (number (unsigned edge.to.0))
+    (member (codes "to") (number_data edge.to.0)
     (member (codes "type") (string edge.kind) no_members)))))
 
 -- A vertex is printed under a vertex's id, an edge under an edge's. Nothing else is printed: `null` stands only so that each case has a value.

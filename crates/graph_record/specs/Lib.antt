@@ -5,3 +5,5 @@ pub mod Json
 pub mod Record
 pub mod Stored
 pub mod Graph
+pub mod Shared
+pub mod Writing

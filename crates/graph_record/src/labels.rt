@@ -5,14 +5,16 @@ ghost use Rattle.graph_record.specs.Edits.{has, added, removed};
 ghost use Rattle.graph_record.specs.Place.{IsAt, IsGapFor, itself};
 
 use crate::NoMemory;
+use crate::shared::{Element, Shared};
 use graph_value::Name;
 use std::alloc::Global;
 use std::marker::Model;
 
-/// The labels of a vertex, ascending, each once. Contracts see the list of them.
+/// The labels of a vertex, ascending, each once. Contracts see the list of them. A copy shares them: an edit of a list
+/// that is shared copies it first, and may want memory for that.
 #[derive(Debug, Drop)]
 pub struct Labels {
-    items: Vec<Name>,
+    items: Shared<Name>,
 }
 
 impl Model for Labels {
@@ -21,9 +23,19 @@ impl Model for Labels {
 
     ghost Value = { List (List ℕ) };
 
-    ghost view = { λ l. l.items.items };
+    ghost view = { λ l. l.items };
 
-    ghost invariant = { λ l. IsAscendingNames l.items.items };
+    ghost invariant = { λ l. IsAscendingNames l.items };
+}
+
+impl Element for Name {
+    fn copy_all(alloc: Global, items: &[Name]) -> Result<Vec<Name>, NoMemory> {
+        let mut copies = Vec::with_capacity(alloc, items.len())?;
+        for name in items {
+            copies.push(name.copy(alloc)?)?;
+        }
+        Ok(copies)
+    }
 }
 
 impl Labels {
@@ -31,7 +43,7 @@ impl Labels {
         ensures { result ≡ [] }
     {
         Labels {
-            items: Vec::new(alloc),
+            items: Shared::new(alloc),
         }
     }
 
@@ -40,7 +52,7 @@ impl Labels {
         ensures number { result ≡ length self.now }
         ensures ascending { IsAscendingNames self.now }
     {
-        self.items.len()
+        self.as_slice().len()
     }
 
     /// The labels, ascending.
@@ -76,30 +88,30 @@ impl Labels {
         }
     }
 
-    /// Takes the label away and says whether it was there. Takes no memory.
-    pub fn remove(&mut self, name: &str) -> bool
-        ensures list { self.new ≡ removed name_cmp name.now self.old }
+    /// Takes the label away and says whether it was there. Only labels that are shared can want for memory, and then
+    /// nothing changes.
+    pub fn remove(&mut self, name: &str) -> Result<bool, NoMemory>
+        ensures ok { OnOk result (self.new ≡ removed name_cmp name.now self.old) }
+        ensures was_there { IfOk result (λ was_there. was_there ≡ has name_cmp name.now self.old) }
         ensures ascending { IsAscendingNames self.old }
-        ensures was_there { result ≡ has name_cmp name.now self.old }
+        ensures err { OnErr result (self.new ≡ self.old) }
     {
         match self.place(name) {
             Ok(at) => {
-                self.items.remove(at);
-                true
+                self.items.remove(at)?;
+                Ok(true)
             }
-            Err(_) => false,
+            Err(_) => Ok(false),
         }
     }
 
-    /// The same labels, in memory of their own.
-    pub fn copy(&self, alloc: Global) -> Result<Labels, NoMemory>
+    /// The same labels, shared. It allocates nothing: the error says that they have as many owners as can be counted.
+    pub fn copy(&self) -> Result<Labels, NoMemory>
         ensures { IfOk result (λ l. l ≡ self.now) }
     {
-        let mut items = Vec::with_capacity(alloc, self.items.len())?;
-        for label in self.items.as_slice() {
-            items.push(label.copy(alloc)?)?;
-        }
-        Ok(Labels { items })
+        Ok(Labels {
+            items: self.items.copy()?,
+        })
     }
 
     // Where the label stands, or where it would go.
@@ -108,6 +120,7 @@ impl Labels {
         ensures absent { IfErr result (IsGapFor name_cmp itself name.now self.now) }
     {
         self.items
+            .as_slice()
             .binary_search_by(|known| known.as_str().cmp(name))
     }
 }

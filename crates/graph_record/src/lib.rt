@@ -3,18 +3,21 @@
 
 mod edge_ids;
 mod graph;
-mod json;
+mod kind;
 mod labels;
 mod object;
+mod printing;
 mod properties;
+mod shared;
 #[cfg(test)]
 mod tests;
 
 pub use edge_ids::EdgeIds;
 pub use graph::Graph;
-pub use json::object_json;
+pub use kind::Kind;
 pub use labels::Labels;
 pub use object::{EdgeRecord, Object, VertexRecord};
+pub use printing::{object_json, push_object_json};
 pub use properties::Properties;
 use std::alloc::AllocError;
 

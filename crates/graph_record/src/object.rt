@@ -1,8 +1,8 @@
 ghost use Rattle.std.specs.Prelude.{◌≡◌, IfOk};
 ghost use Rattle.graph_record.specs.Record.{empty_vertex};
 
-use crate::{EdgeIds, Labels, NoMemory, Properties};
-use graph_value::{Name, VertexId};
+use crate::{EdgeIds, Kind, Labels, NoMemory, Properties};
+use graph_value::VertexId;
 use std::alloc::Global;
 
 /// What is kept of a vertex.
@@ -27,15 +27,16 @@ impl VertexRecord {
         }
     }
 
-    /// The same record, in memory of its own.
-    pub fn copy(&self, alloc: Global) -> Result<VertexRecord, NoMemory>
+    /// The same record, which shares its lists. It allocates nothing: the error says that a list has as many owners as
+    /// can be counted.
+    pub fn copy(&self) -> Result<VertexRecord, NoMemory>
         ensures { IfOk result (λ v. v ≡ self.now) }
     {
         Ok(VertexRecord {
-            labels: self.labels.copy(alloc)?,
-            props: self.props.copy(alloc)?,
-            outs: self.outs.copy(alloc)?,
-            ins: self.ins.copy(alloc)?,
+            labels: self.labels.copy()?,
+            props: self.props.copy()?,
+            outs: self.outs.copy()?,
+            ins: self.ins.copy()?,
         })
     }
 }
@@ -43,22 +44,23 @@ impl VertexRecord {
 /// What is kept of an edge.
 #[derive(Debug, Drop)]
 pub struct EdgeRecord {
-    pub kind: Name,
+    pub kind: Kind,
     pub from: VertexId,
     pub to: VertexId,
     pub props: Properties,
 }
 
 impl EdgeRecord {
-    /// The same record, in memory of its own.
-    pub fn copy(&self, alloc: Global) -> Result<EdgeRecord, NoMemory>
+    /// The same record, which shares its kind and its properties. It allocates nothing: the error says that one of them
+    /// has as many owners as can be counted.
+    pub fn copy(&self) -> Result<EdgeRecord, NoMemory>
         ensures { IfOk result (λ e. e ≡ self.now) }
     {
         Ok(EdgeRecord {
-            kind: self.kind.copy(alloc)?,
+            kind: self.kind.copy()?,
             from: self.from,
             to: self.to,
-            props: self.props.copy(alloc)?,
+            props: self.props.copy()?,
         })
     }
 }
@@ -73,14 +75,15 @@ pub enum Object {
 }
 
 impl Object {
-    /// The same object, in memory of its own.
-    pub fn copy(&self, alloc: Global) -> Result<Object, NoMemory>
+    /// The same object, which shares what it holds. It allocates nothing: the error says that a part has as many owners
+    /// as can be counted.
+    pub fn copy(&self) -> Result<Object, NoMemory>
         ensures { IfOk result (λ o. o ≡ self.now) }
     {
         match self {
             Object::Dead => Ok(Object::Dead),
-            Object::Vertex(vertex) => Ok(Object::Vertex(vertex.copy(alloc)?)),
-            Object::Edge(edge) => Ok(Object::Edge(edge.copy(alloc)?)),
+            Object::Vertex(vertex) => Ok(Object::Vertex(vertex.copy()?)),
+            Object::Edge(edge) => Ok(Object::Edge(edge.copy()?)),
         }
     }
 }

@@ -1,4 +1,4 @@
-ghost use Rattle.std.specs.Prelude.{◌≡◌, [], false, length, IfOk, IfErr, OnOk, OnErr, IsOk, IsSome, IsTrue};
+ghost use Rattle.std.specs.Prelude.{◌≡◌, [], length, IfOk, IfErr, OnOk, OnErr, IsTrue};
 ghost use Rattle.std.specs.Option.{option_copied};
 ghost use Rattle.std.specs.FinMap.{find, put};
 ghost use Rattle.graph_value.specs.Name.{name_cmp};
@@ -9,16 +9,16 @@ ghost use Rattle.graph_record.specs.Stored.{IsPropertyList, are_storable, set_pr
 ghost use Rattle.graph_value.specs.Storable.{is_storable};
 
 use crate::NoMemory;
+use crate::shared::{Element, Shared};
 use graph_value::{Name, Value, storable};
 use std::alloc::Global;
 use std::marker::Model;
-use std::mem;
 
 /// The properties of an object, ascending by name, each name once, with values that an object may keep. Contracts see
-/// the list of them.
+/// the list of them. A copy shares them: an edit of a list that is shared copies it first, and may want memory for that.
 #[derive(Debug, Drop)]
 pub struct Properties {
-    items: Vec<(Name, Value)>,
+    items: Shared<(Name, Value)>,
 }
 
 impl Model for Properties {
@@ -32,9 +32,19 @@ impl Model for Properties {
 
     ghost coded = { Prim.hlevel (codes, property_value.the_row.coded) };
 
-    ghost view = { λ p. p.items.items };
+    ghost view = { λ p. p.items };
 
-    ghost invariant = { λ p. IsPropertyList p.items.items };
+    ghost invariant = { λ p. IsPropertyList p.items };
+}
+
+impl Element for (Name, Value) {
+    fn copy_all(alloc: Global, items: &[(Name, Value)]) -> Result<Vec<(Name, Value)>, NoMemory> {
+        let mut copies = Vec::with_capacity(alloc, items.len())?;
+        for (name, value) in items {
+            copies.push((name.copy(alloc)?, value.copy(alloc)?))?;
+        }
+        Ok(copies)
+    }
 }
 
 impl Properties {
@@ -42,7 +52,7 @@ impl Properties {
         ensures { result ≡ [] }
     {
         Properties {
-            items: Vec::new(alloc),
+            items: Shared::new(alloc),
         }
     }
 
@@ -51,7 +61,7 @@ impl Properties {
         ensures number { result ≡ length self.now }
         ensures ascending { IsAscendingProperties self.now }
     {
-        self.items.len()
+        self.as_slice().len()
     }
 
     /// The properties, ascending by name.
@@ -69,25 +79,24 @@ impl Properties {
         ensures ascending { IsAscendingProperties self.now }
     {
         match self.place(name) {
-            Ok(at) => Some(&self.items[at].1),
+            Ok(at) => Some(&self.items.as_slice()[at].1),
             Err(_) => None,
         }
     }
 
     /// Gives the name this value, and gives back the one that it had, or `None` where it had none. A value that no
-    /// object keeps, as null, takes the property away. Only a new name can want for memory, and then nothing changes.
+    /// object keeps, as null, takes the property away. Only a new name and properties that are shared can want for
+    /// memory, and then nothing changes.
     pub fn set(&mut self, name: Name, value: Value) -> Result<Option<Value>, NoMemory>
         ensures ok { OnOk result (self.new ≡ set_property name value self.old) }
         ensures former { IfOk result (λ former. former ≡ find name_cmp name self.old) }
         ensures form { IsPropertyList self.old }
         ensures err { OnErr result (self.new ≡ self.old) }
-        ensures replaces { IsSome (find name_cmp name self.old) → IsOk result }
-        ensures removes { is_storable value ≡ false → IsOk result }
     {
         if storable(&value) {
             self.put(name, value)
         } else {
-            Ok(self.remove(name.as_str()))
+            self.remove(name.as_str())
         }
     }
 
@@ -97,10 +106,12 @@ impl Properties {
         ensures former { IfOk result (λ former. former ≡ find name_cmp name self.old) }
         ensures form { IsPropertyList self.old }
         ensures err { OnErr result (self.new ≡ self.old) }
-        ensures replaces { IsSome (find name_cmp name self.old) → IsOk result }
     {
         match self.place(name.as_str()) {
-            Ok(at) => Ok(Some(mem::replace(&mut self.items[at].1, value))),
+            Ok(at) => {
+                let (_, former) = self.items.replace(at, (name, value))?;
+                Ok(Some(former))
+            }
             Err(at) => {
                 self.items.insert(at, (name, value))?;
                 Ok(None)
@@ -108,31 +119,31 @@ impl Properties {
         }
     }
 
-    /// Takes the property of that name away and gives back its value, or `None` where there is no
-    /// such property. Takes no memory.
-    pub fn remove(&mut self, name: &str) -> Option<Value>
-        ensures value { result ≡ find name_cmp name.now self.old }
-        ensures list { self.new ≡ removed_key name_cmp name.now self.old }
+    /// Takes the property of that name away and gives back its value, or `None` where there is no such property. Only
+    /// properties that are shared can want for memory, and then nothing changes.
+    pub fn remove(&mut self, name: &str) -> Result<Option<Value>, NoMemory>
+        ensures value { IfOk result (λ value. value ≡ find name_cmp name.now self.old) }
+        ensures ok { OnOk result (self.new ≡ removed_key name_cmp name.now self.old) }
         ensures form { IsPropertyList self.old }
+        ensures err { OnErr result (self.new ≡ self.old) }
     {
         match self.place(name) {
             Ok(at) => {
-                let (_, value) = self.items.remove(at);
-                Some(value)
+                let (_, value) = self.items.remove(at)?;
+                Ok(Some(value))
             }
-            Err(_) => None,
+            Err(_) => Ok(None),
         }
     }
 
-    /// The same properties, in memory of their own.
-    pub fn copy(&self, alloc: Global) -> Result<Properties, NoMemory>
+    /// The same properties, shared. It allocates nothing: the error says that they have as many owners as can be
+    /// counted.
+    pub fn copy(&self) -> Result<Properties, NoMemory>
         ensures { IfOk result (λ p. p ≡ self.now) }
     {
-        let mut items = Vec::with_capacity(alloc, self.items.len())?;
-        for (name, value) in self.items.as_slice() {
-            items.push((name.copy(alloc)?, value.copy(alloc)?))?;
-        }
-        Ok(Properties { items })
+        Ok(Properties {
+            items: self.items.copy()?,
+        })
     }
 
     // Where the name stands, or where it would go.
@@ -141,6 +152,7 @@ impl Properties {
         ensures absent { IfErr result (IsGapFor name_cmp key_of name.now self.now) }
     {
         self.items
+            .as_slice()
             .binary_search_by(|(known, _)| known.as_str().cmp(name))
     }
 }

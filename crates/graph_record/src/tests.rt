@@ -1,69 +1,85 @@
-use crate::{EdgeIds, EdgeRecord, Graph, Labels, Object, Properties, VertexRecord};
+use crate::{EdgeIds, EdgeRecord, Graph, Kind, Labels, NoMemory, Object, Properties, VertexRecord};
 use graph_value::{EdgeId, Name, Value, VertexId};
+use std::alloc::Global;
 use std::test::Fail;
 
+/// Sets `k` to the number, and says which number it had.
+fn set_number(alloc: Global, props: &mut Properties, n: i64) -> Result<Option<i64>, NoMemory> {
+    let former = props.set(Name::from_str(alloc, "k")?, Value::Int(n))?;
+    Ok(number(former.as_ref()))
+}
+
+fn number(value: Option<&Value>) -> Option<i64> {
+    match value {
+        Some(Value::Int(n)) => Some(*n),
+        _ => None,
+    }
+}
+
 #[test]
-fn a_later_value_replaces_an_earlier_one(rt: HostRuntime) -> Result<(), Fail> {
+fn a_later_value_replaces_an_earlier_one_and_null_takes_it_away(
+    rt: HostRuntime,
+) -> Result<(), Fail> {
     let alloc = rt.alloc();
     let mut props = Properties::new(alloc);
-    props.set(Name::from_str(alloc, "k")?, Value::Int(2))?;
-    let former = props.set(Name::from_str(alloc, "k")?, Value::Int(3))?;
-    assert!(rt; matches!(&former, Some(Value::Int(2))));
-    assert!(rt; matches!(props.get("k"), Some(Value::Int(3))));
-    assert!(rt; props.copy(alloc)?.len() == 1);
+    assert_eq!(rt; set_number(alloc, &mut props, 2)?, None);
+    let copy = props.copy()?;
+    assert_eq!(rt; set_number(alloc, &mut props, 3)?, Some(2));
+    assert_eq!(rt; number(props.get("k")), Some(3));
+    assert_eq!(rt; number(copy.get("k")), Some(2));
+    props.set(Name::from_str(alloc, "k")?, Value::Null)?;
+    assert_eq!(rt; props.len(), 0);
     Ok(())
 }
 
 #[test]
-fn null_takes_a_property_away(rt: HostRuntime) -> Result<(), Fail> {
-    let alloc = rt.alloc();
-    let mut props = Properties::new(alloc);
-    props.set(Name::from_str(alloc, "k")?, Value::Int(2))?;
-    let former = props.set(Name::from_str(alloc, "k")?, Value::Null)?;
-    assert!(rt; matches!(&former, Some(Value::Int(2))));
-    assert!(rt; props.as_slice().is_empty());
-    assert!(rt; props.remove("k").is_none());
-    Ok(())
-}
-
-#[test]
-fn labels_are_added_and_removed(rt: HostRuntime) -> Result<(), Fail> {
+fn labels_are_added_and_removed_and_copies_stay(rt: HostRuntime) -> Result<(), Fail> {
     let alloc = rt.alloc();
     let mut labels = Labels::new(alloc);
     assert!(rt; labels.add(Name::from_str(alloc, "b")?)?);
     assert!(rt; labels.add(Name::from_str(alloc, "a")?)?);
-    assert!(rt; labels.contains("a"));
-    assert!(rt; labels.remove("a"));
-    assert!(rt; labels.copy(alloc)?.contains("b"));
-    assert!(rt; labels.as_slice().len() == labels.len());
+    let copy = labels.copy()?;
+    assert!(rt; labels.remove("a")?);
+    assert!(rt; copy.contains("a"));
+    assert_eq!(rt; labels.len(), 1);
     Ok(())
 }
 
 #[test]
-fn edges_are_added_and_removed(rt: HostRuntime) -> Result<(), Fail> {
+fn edges_are_added_and_removed_and_copies_stay(rt: HostRuntime) -> Result<(), Fail> {
     let alloc = rt.alloc();
     let mut edges = EdgeIds::new(alloc);
     assert!(rt; edges.add(EdgeId(7))?);
     assert!(rt; edges.add(EdgeId(5))?);
-    assert!(rt; edges.contains(EdgeId(7)));
-    assert!(rt; edges.remove(EdgeId(7)));
-    assert!(rt; edges.copy(alloc)?.len() == 1);
-    assert!(rt; edges.as_slice() == [EdgeId(5)].as_slice());
+    assert!(rt; edges.is_below(EdgeId(8)));
+    let copy = edges.copy()?;
+    assert_eq!(rt; edges.pop(), Some(EdgeId(7)));
+    assert!(rt; edges.add(EdgeId(9))?);
+    assert!(rt; edges.remove(EdgeId(5))?);
+    assert_eq!(rt; edges.as_slice(), [EdgeId(9)].as_slice());
+    assert_eq!(rt; copy.as_slice(), [EdgeId(5), EdgeId(7)].as_slice());
+    assert_eq!(rt; edges.len(), 1);
+    assert!(rt; edges.contains(EdgeId(9)));
     Ok(())
 }
 
-#[test]
-fn copies_of_objects_hold_the_same(rt: HostRuntime) -> Result<(), Fail> {
-    let alloc = rt.alloc();
-    assert!(rt; VertexRecord::empty(alloc).copy(alloc)?.props.len() == 0);
-    let edge = EdgeRecord {
-        kind: Name::from_str(alloc, "knows")?,
+fn knows(alloc: Global) -> Result<EdgeRecord, NoMemory> {
+    Ok(EdgeRecord {
+        kind: Kind::new(alloc, Name::from_str(alloc, "knows")?)?,
         from: VertexId(4),
         to: VertexId(7),
         props: Properties::new(alloc),
-    };
-    let copy = Object::Edge(edge).copy(alloc)?;
-    assert!(rt; matches!(&copy, Object::Edge(edge) if edge.to == VertexId(7)));
+    })
+}
+
+#[test]
+fn copies_of_records_hold_the_same(rt: HostRuntime) -> Result<(), Fail> {
+    let alloc = rt.alloc();
+    assert_eq!(rt; VertexRecord::empty(alloc).copy()?.props.len(), 0);
+    let copy = knows(alloc)?.copy()?;
+    assert!(rt; copy.kind.as_str() == "knows");
+    assert_eq!(rt; copy.to, VertexId(7));
+    assert!(rt; matches!(Object::Dead.copy()?, Object::Dead));
     Ok(())
 }
 

@@ -39,7 +39,7 @@ pub vertex_value_back : (name : List ℕ) (value : Value) (r : VertexRecord) →
     → undone_by (property_deltas name value (Vertex r)) (with_property name value (Vertex r)) ≡ Vertex r
 vertex_value_back name value r form =
     let old = value_or_null (find name_cmp name r.props) in
-    elim (same_value old (kept value)) as (λ b. same_value old (kept value) ≡ b → undone_by (cond b no_delta (one_delta (delta.SetProperty name old))) (with_property name value (Vertex r)) ≡ Vertex r) [
+    elim (same_value old (kept value)) as (λ b. same_value old (kept value) ≡ b → undone_by (cond b no_delta (one_delta (delta.SetProperty (name, old)))) (with_property name value (Vertex r)) ≡ Vertex r) [
       | true ↦ λ same. ap (λ (ps : Props). Vertex (record r { props = ps })) (value_kept name value r.props form same)
       | false ↦ λ other. ap (λ (ps : Props). Vertex (record r { props = ps })) (value_back name value r.props form)
     ] refl
@@ -48,7 +48,7 @@ pub edge_value_back : (name : List ℕ) (value : Value) (r : EdgeRecord) → IsP
     → undone_by (property_deltas name value (Edge r)) (with_property name value (Edge r)) ≡ Edge r
 edge_value_back name value r form =
     let old = value_or_null (find name_cmp name r.props) in
-    elim (same_value old (kept value)) as (λ b. same_value old (kept value) ≡ b → undone_by (cond b no_delta (one_delta (delta.SetProperty name old))) (with_property name value (Edge r)) ≡ Edge r) [
+    elim (same_value old (kept value)) as (λ b. same_value old (kept value) ≡ b → undone_by (cond b no_delta (one_delta (delta.SetProperty (name, old)))) (with_property name value (Edge r)) ≡ Edge r) [
       | true ↦ λ same. ap (λ (ps : Props). Edge (record r { props = ps })) (value_kept name value r.props form same)
       | false ↦ λ other. ap (λ (ps : Props). Edge (record r { props = ps })) (value_back name value r.props form)
     ] refl

@@ -142,8 +142,12 @@ value_at name (Edge r) = value_or_null (find name_cmp name r.props)
 abbrev pub kept : Value → Value
 kept value = cond (is_storable value) value Null
 
+-- what undoes that a value was written where the former one was: nothing, where that is the same
+abbrev pub setting_deltas : List ℕ → Value → Value → DeltaPair
+setting_deltas name former value = cond (same_value former (kept value)) no_delta (one_delta (delta.SetProperty (name, former)))
+
 abbrev pub property_deltas : List ℕ → Value → Object → DeltaPair
-property_deltas name value o = cond (same_value (value_at name o) (kept value)) no_delta (one_delta (delta.SetProperty name (value_at name o)))
+property_deltas name value o = setting_deltas name (value_at name o) value
 
 abbrev pub new_edge_deltas : EdgeId → VertexId → VertexId → Oid → DeltaPair
 new_edge_deltas e from to (oid.Vertex v) = end_deltas (nat_eq v.0 from.0) (nat_eq v.0 to.0) (delta.RemoveOutEdge e) (delta.RemoveInEdge e)

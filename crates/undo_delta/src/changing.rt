@@ -1,6 +1,7 @@
 ghost use Rattle.std.specs.Prelude.{◌≡◌, ◌↔◌, None, IfOk, OnOk, OnErr, IsTrue};
-ghost use Rattle.graph_record.specs.declared.object.Object.TheVariants.{Dead};
-ghost use Rattle.undo_delta.specs.Change.{is_possible, changed, deltas_of, one_delta, undone_by};
+ghost use Rattle.graph_record.specs.declared.object.Object.TheVariants.{Dead, Edge};
+ghost use Rattle.graph_record.specs.Record.{empty_vertex};
+ghost use Rattle.undo_delta.specs.Change.{is_possible, changed, deltas_of, one_delta, undone_by, new_edge};
 ghost use Rattle.undo_delta.specs.Form.{IsForm};
 ghost use Rattle.undo_delta.specs.Touch.{is_touched};
 ghost use Rattle.undo_delta.specs.declared.delta.Delta.TheVariants as delta;
@@ -8,11 +9,10 @@ ghost use Rattle.undo_delta.specs.declared.delta.Delta.TheVariants as delta;
 use crate::edit::{add_label, remove_label, set_value};
 use crate::ends::{link, unlink};
 use crate::form::see_form;
-use crate::{Delta, DeltaPair, NoMemory, Op};
-use graph_record::{EdgeRecord, Object, Properties, VertexRecord};
-use graph_value::Oid;
+use crate::{Delta, DeltaPair, Former, NoMemory, Op};
+use graph_record::{EdgeRecord, Kind, Object, Properties, VertexRecord};
+use graph_value::{Name, Oid, VertexId};
 use std::alloc::Global;
-use std::mem;
 
 /// Does to one object what the write does to it, and gives the deltas that undo this. Where the write changes nothing
 /// of the object, there is no delta. Without memory the object stays as it was.
@@ -41,68 +41,80 @@ fn change_parts(alloc: Global, x: Oid, object: &mut Object, op: &Op) -> Result<D
     ensures err { OnErr result (object.new ≡ object.old) }
 {
     match op {
-        Op::CreateVertex(_) => {
-            *object = Object::Vertex(VertexRecord::empty(alloc));
-            Ok(DeltaPair::of(Some(Delta::DeleteObject)))
-        }
-        Op::DeleteVertex(_) => Ok(delete(object)),
+        Op::CreateVertex(_) => Ok(make_vertex(alloc, object)),
+        Op::DeleteVertex(_) => delete(alloc, object),
         Op::AddLabel(_, name) => match object {
-            Object::Vertex(vertex) => Ok(DeltaPair::of(add_label(
-                alloc,
-                &mut vertex.labels,
-                name,
-            )?)),
+            Object::Vertex(vertex) => add_label(alloc, &mut vertex.labels, name),
             _ => unreachable!(),
         },
         Op::RemoveLabel(_, name) => match object {
-            Object::Vertex(vertex) => Ok(DeltaPair::of(remove_label(
-                alloc,
-                &mut vertex.labels,
-                name,
-            )?)),
+            Object::Vertex(vertex) => remove_label(alloc, &mut vertex.labels, name),
             _ => unreachable!(),
         },
         Op::SetVertexProp(_, name, value) => match object {
-            Object::Vertex(vertex) => Ok(DeltaPair::of(set_value(
-                alloc,
-                &mut vertex.props,
-                name,
-                value,
-            )?)),
+            Object::Vertex(vertex) => set_value(alloc, &mut vertex.props, name, value),
             _ => unreachable!(),
         },
         Op::CreateEdge { id, from, kind, to } => match x {
             Oid::Vertex(v) => link(object, *id, v == *from, v == *to),
-            Oid::Edge(_) => {
-                let edge = EdgeRecord {
-                    kind: kind.copy(alloc)?,
-                    from: *from,
-                    to: *to,
-                    props: Properties::new(alloc),
-                };
-                *object = Object::Edge(edge);
-                Ok(DeltaPair::of(Some(Delta::DeleteObject)))
-            }
+            Oid::Edge(_) => make_edge(alloc, object, *from, kind, *to),
         },
         Op::DeleteEdge { id, from, to } => match x {
-            Oid::Vertex(v) => Ok(unlink(object, *id, v == *from, v == *to)),
-            Oid::Edge(_) => Ok(delete(object)),
+            Oid::Vertex(v) => unlink(object, *id, v == *from, v == *to),
+            Oid::Edge(_) => delete(alloc, object),
         },
         Op::SetEdgeProp(_, name, value) => match object {
-            Object::Edge(edge) => Ok(DeltaPair::of(set_value(
-                alloc,
-                &mut edge.props,
-                name,
-                value,
-            )?)),
+            Object::Edge(edge) => set_value(alloc, &mut edge.props, name, value),
             _ => unreachable!(),
         },
     }
 }
 
-fn delete(object: &mut Object) -> DeltaPair
-    ensures object { object.new ≡ Dead }
-    ensures deltas { result ≡ one_delta (delta.RecreateObject object.old) }
+fn make_vertex(alloc: Global, object: &mut Object) -> DeltaPair
+    ensures object { object.new ≡ Object.Vertex empty_vertex }
+    ensures deltas { result ≡ one_delta delta.DeleteObject }
 {
-    DeltaPair::of(Some(Delta::RecreateObject(mem::replace(object, Object::Dead))))
+    put_object(object, Object::Vertex(VertexRecord::empty(alloc)));
+    DeltaPair::one(Delta::DeleteObject)
+}
+
+fn make_edge(
+    alloc: Global,
+    object: &mut Object,
+    from: VertexId,
+    kind: &Name,
+    to: VertexId,
+) -> Result<DeltaPair, NoMemory>
+    ensures object { OnOk result (object.new ≡ Edge (new_edge kind.now from to)) }
+    ensures deltas { IfOk result (λ pair. pair ≡ one_delta delta.DeleteObject) }
+    ensures err { OnErr result (object.new ≡ object.old) }
+{
+    let kind = Kind::new(alloc, kind.copy(alloc)?)?;
+    let props = Properties::new(alloc);
+    put_object(
+        object,
+        Object::Edge(EdgeRecord {
+            kind,
+            from,
+            to,
+            props,
+        }),
+    );
+    Ok(DeltaPair::one(Delta::DeleteObject))
+}
+
+fn delete(alloc: Global, object: &mut Object) -> Result<DeltaPair, NoMemory>
+    ensures object { OnOk result (object.new ≡ Dead) }
+    ensures deltas { IfOk result (λ pair. pair ≡ one_delta (delta.RecreateObject object.old)) }
+    ensures err { OnErr result (object.new ≡ object.old) }
+{
+    let former = Former::take(alloc, object)?;
+    Ok(DeltaPair::one(Delta::RecreateObject(former)))
+}
+
+/// Puts the object in the place of the one that stands there.
+pub(crate) fn put_object(place: &mut Object, object: Object)
+    ensures { place.new ≡ object }
+{
+    *place = object;
 }

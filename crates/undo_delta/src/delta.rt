@@ -1,8 +1,8 @@
-ghost use Rattle.std.specs.Prelude.{◌≡◌, None, IfOk};
+ghost use Rattle.std.specs.Prelude.{◌≡◌, IfOk};
+ghost use Rattle.undo_delta.specs.Change.{no_delta, one_delta};
 
-use crate::NoMemory;
-use graph_record::Object;
-use graph_value::{EdgeId, Name, Value};
+use crate::{Former, NoMemory, Setting};
+use graph_value::{EdgeId, Name};
 use std::alloc::Global;
 
 /// What undoes one change of one object.
@@ -11,11 +11,11 @@ pub enum Delta {
     /// The object was created.
     DeleteObject,
     /// The object was deleted, and was this one.
-    RecreateObject(Object),
+    RecreateObject(Former),
     AddLabel(Name),
     RemoveLabel(Name),
     /// The property had this value, or null where there was no such property.
-    SetProperty(Name, Value),
+    SetProperty(Setting),
     AddInEdge(EdgeId),
     AddOutEdge(EdgeId),
     RemoveInEdge(EdgeId),
@@ -23,18 +23,16 @@ pub enum Delta {
 }
 
 impl Delta {
-    /// The same delta, in memory of its own.
+    /// The same delta. What a deleted object was is shared, all else is in memory of its own.
     pub fn copy(&self, alloc: Global) -> Result<Delta, NoMemory>
         ensures { IfOk result (λ d. d ≡ self.now) }
     {
         match self {
             Delta::DeleteObject => Ok(Delta::DeleteObject),
-            Delta::RecreateObject(object) => Ok(Delta::RecreateObject(object.copy(alloc)?)),
+            Delta::RecreateObject(former) => Ok(Delta::RecreateObject(former.copy(alloc)?)),
             Delta::AddLabel(name) => Ok(Delta::AddLabel(name.copy(alloc)?)),
             Delta::RemoveLabel(name) => Ok(Delta::RemoveLabel(name.copy(alloc)?)),
-            Delta::SetProperty(name, value) => {
-                Ok(Delta::SetProperty(name.copy(alloc)?, value.copy(alloc)?))
-            }
+            Delta::SetProperty(setting) => Ok(Delta::SetProperty(setting.copy(alloc)?)),
             Delta::AddInEdge(id) => Ok(Delta::AddInEdge(*id)),
             Delta::AddOutEdge(id) => Ok(Delta::AddOutEdge(*id)),
             Delta::RemoveInEdge(id) => Ok(Delta::RemoveInEdge(*id)),
@@ -53,11 +51,20 @@ pub struct DeltaPair {
 }
 
 impl DeltaPair {
-    pub(crate) fn of(first: Option<Delta>) -> DeltaPair
-        ensures { result ≡ record { first = first; second = None } }
+    pub(crate) fn none() -> DeltaPair
+        ensures { result ≡ no_delta }
     {
         DeltaPair {
-            first,
+            first: None,
+            second: None,
+        }
+    }
+
+    pub(crate) fn one(delta: Delta) -> DeltaPair
+        ensures { result ≡ one_delta delta }
+    {
+        DeltaPair {
+            first: Some(delta),
             second: None,
         }
     }

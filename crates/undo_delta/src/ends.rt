@@ -1,5 +1,5 @@
 //! The edges that a vertex lists: among those that leave it, and among those that come to it.
-ghost use Rattle.std.specs.Prelude.{◌≡◌, IfOk, OnOk, OnErr, IsTrue};
+ghost use Rattle.std.specs.Prelude.{◌≡◌, IfOk, OnOk, OnErr, IsTrue, true};
 ghost use Rattle.graph_record.specs.declared.object.Object.TheVariants.{Vertex};
 ghost use Rattle.undo_delta.specs.Change.{linked, unlinked, end_deltas, is_free_of, has_ends};
 ghost use Rattle.undo_delta.specs.declared.delta.Delta.TheVariants as delta;
@@ -17,15 +17,15 @@ pub(crate) fn link(
 ) -> Result<DeltaPair, NoMemory>
     requires { IsTrue (is_free_of id object.old) }
     ensures object { OnOk result (object.new ≡ linked leaves comes id object.old) }
-    ensures deltas { IfOk result (λ pair. pair ≡ end_deltas leaves comes (delta.RemoveOutEdge id) (delta.RemoveInEdge id)) }
+    ensures deltas { IfOk result (λ pair. pair
+        ≡ end_deltas leaves comes (delta.RemoveOutEdge id) (delta.RemoveInEdge id)) }
     ensures err { OnErr result (object.new ≡ object.old) }
 {
-    let Object::Vertex(vertex) = object else {
-        unreachable!()
-    };
-    link_vertex(vertex, id, leaves, comes)?;
-    let (out, come) = (Delta::RemoveOutEdge(id), Delta::RemoveInEdge(id));
-    Ok(end_deltas(leaves, comes, out, come))
+    match object {
+        Object::Vertex(vertex) => link_vertex(vertex, id, leaves, comes)?,
+        _ => unreachable!(),
+    }
+    Ok(linked_deltas(id, leaves, comes))
 }
 
 fn link_vertex(
@@ -35,11 +35,11 @@ fn link_vertex(
     comes: bool,
 ) -> Result<(), NoMemory>
     requires { IsTrue (is_free_of id (Vertex vertex.old)) }
-    ensures ok { OnOk result (Vertex vertex.new ≡ linked leaves comes id (Vertex vertex.old)) }
+    ensures vertex { OnOk result (Vertex vertex.new ≡ linked leaves comes id (Vertex vertex.old)) }
     ensures err { OnErr result (vertex.new ≡ vertex.old) }
 {
     match (leaves, comes) {
-        (false, false) => Ok(()),
+        (true, true) => link_loop(vertex, id),
         (true, false) => {
             vertex.outs.add(id)?;
             Ok(())
@@ -48,62 +48,122 @@ fn link_vertex(
             vertex.ins.add(id)?;
             Ok(())
         }
-        (true, true) => {
-            vertex.outs.add(id)?;
-            match vertex.ins.add(id) {
-                Ok(_) => Ok(()),
-                Err(error) => {
-                    vertex.outs.remove(id);
-                    Err(error)
-                }
-            }
+        (false, false) => Ok(()),
+    }
+}
+
+/// Puts an edge from a vertex to itself into both lists. Where its id is the greatest, no list is copied for the case
+/// that memory is wanting for the second.
+fn link_loop(vertex: &mut VertexRecord, id: EdgeId) -> Result<(), NoMemory>
+    requires { IsTrue (is_free_of id (Vertex vertex.old)) }
+    ensures vertex { OnOk result (Vertex vertex.new ≡ linked true true id (Vertex vertex.old)) }
+    ensures err { OnErr result (vertex.new ≡ vertex.old) }
+{
+    if !vertex.outs.is_below(id) {
+        return link_loop_aside(vertex, id);
+    }
+    vertex.outs.add(id)?;
+    match vertex.ins.add(id) {
+        Ok(_) => Ok(()),
+        Err(error) => {
+            vertex.outs.pop();
+            Err(error)
         }
     }
 }
 
-/// Takes an edge out of the lists of a vertex that is its start, its end or both.
-pub(crate) fn unlink(object: &mut Object, id: EdgeId, leaves: bool, comes: bool) -> DeltaPair
-    requires { IsTrue (has_ends leaves comes id object.old) }
-    ensures object { object.new ≡ unlinked leaves comes id object.old }
-    ensures deltas { result ≡ end_deltas leaves comes (delta.AddOutEdge id) (delta.AddInEdge id) }
+fn link_loop_aside(vertex: &mut VertexRecord, id: EdgeId) -> Result<(), NoMemory>
+    ensures vertex { OnOk result (Vertex vertex.new ≡ linked true true id (Vertex vertex.old)) }
+    ensures err { OnErr result (vertex.new ≡ vertex.old) }
 {
-    let Object::Vertex(vertex) = object else {
-        unreachable!()
-    };
-    unlink_vertex(vertex, id, leaves, comes);
-    let (out, come) = (Delta::AddOutEdge(id), Delta::AddInEdge(id));
-    end_deltas(leaves, comes, out, come)
+    let mut outs = vertex.outs.copy()?;
+    outs.add(id)?;
+    vertex.ins.add(id)?;
+    vertex.outs = outs;
+    Ok(())
 }
 
-fn unlink_vertex(vertex: &mut VertexRecord, id: EdgeId, leaves: bool, comes: bool)
-    ensures { Vertex vertex.new ≡ unlinked leaves comes id (Vertex vertex.old) }
+/// Takes an edge out of the lists of a vertex that is its start, its end or both. Without memory nothing changes.
+pub(crate) fn unlink(
+    object: &mut Object,
+    id: EdgeId,
+    leaves: bool,
+    comes: bool,
+) -> Result<DeltaPair, NoMemory>
+    requires { IsTrue (has_ends leaves comes id object.old) }
+    ensures object { OnOk result (object.new ≡ unlinked leaves comes id object.old) }
+    ensures deltas { IfOk result (λ pair. pair
+        ≡ end_deltas leaves comes (delta.AddOutEdge id) (delta.AddInEdge id)) }
+    ensures err { OnErr result (object.new ≡ object.old) }
+{
+    match object {
+        Object::Vertex(vertex) => unlink_vertex(vertex, id, leaves, comes)?,
+        _ => unreachable!(),
+    }
+    Ok(unlinked_deltas(id, leaves, comes))
+}
+
+fn unlink_vertex(
+    vertex: &mut VertexRecord,
+    id: EdgeId,
+    leaves: bool,
+    comes: bool,
+) -> Result<(), NoMemory>
+    ensures vertex { OnOk result (Vertex vertex.new ≡ unlinked leaves comes id (Vertex vertex.old)) }
+    ensures err { OnErr result (vertex.new ≡ vertex.old) }
 {
     match (leaves, comes) {
-        (false, false) => {}
+        (true, true) => unlink_loop(vertex, id),
         (true, false) => {
-            vertex.outs.remove(id);
+            vertex.outs.remove(id)?;
+            Ok(())
         }
         (false, true) => {
-            vertex.ins.remove(id);
+            vertex.ins.remove(id)?;
+            Ok(())
         }
-        (true, true) => {
-            vertex.outs.remove(id);
-            vertex.ins.remove(id);
-        }
+        (false, false) => Ok(()),
     }
+}
+
+/// Takes an edge from a vertex to itself out of both lists: the one without it is made aside first.
+fn unlink_loop(vertex: &mut VertexRecord, id: EdgeId) -> Result<(), NoMemory>
+    ensures vertex { OnOk result (Vertex vertex.new ≡ unlinked true true id (Vertex vertex.old)) }
+    ensures err { OnErr result (vertex.new ≡ vertex.old) }
+{
+    let mut outs = vertex.outs.copy()?;
+    outs.remove(id)?;
+    vertex.ins.remove(id)?;
+    vertex.outs = outs;
+    Ok(())
 }
 
 /// One delta for each end that the vertex is, the one for the edge's start the older.
-fn end_deltas(leaves: bool, comes: bool, out: Delta, come: Delta) -> DeltaPair
-    ensures { result ≡ end_deltas leaves comes out come }
+fn linked_deltas(id: EdgeId, leaves: bool, comes: bool) -> DeltaPair
+    ensures { result ≡ end_deltas leaves comes (delta.RemoveOutEdge id) (delta.RemoveInEdge id) }
 {
     match (leaves, comes) {
         (true, true) => DeltaPair {
-            first: Some(out),
-            second: Some(come),
+            first: Some(Delta::RemoveOutEdge(id)),
+            second: Some(Delta::RemoveInEdge(id)),
         },
-        (true, false) => DeltaPair::of(Some(out)),
-        (false, true) => DeltaPair::of(Some(come)),
-        (false, false) => DeltaPair::of(None),
+        (true, false) => DeltaPair::one(Delta::RemoveOutEdge(id)),
+        (false, true) => DeltaPair::one(Delta::RemoveInEdge(id)),
+        (false, false) => DeltaPair::none(),
+    }
+}
+
+/// One delta for each end that the vertex was, the one for the edge's start the older.
+fn unlinked_deltas(id: EdgeId, leaves: bool, comes: bool) -> DeltaPair
+    ensures { result ≡ end_deltas leaves comes (delta.AddOutEdge id) (delta.AddInEdge id) }
+{
+    match (leaves, comes) {
+        (true, true) => DeltaPair {
+            first: Some(Delta::AddOutEdge(id)),
+            second: Some(Delta::AddInEdge(id)),
+        },
+        (true, false) => DeltaPair::one(Delta::AddOutEdge(id)),
+        (false, true) => DeltaPair::one(Delta::AddInEdge(id)),
+        (false, false) => DeltaPair::none(),
     }
 }

@@ -1,7 +1,12 @@
+ghost use Rattle.std.specs.Prelude.{◌≡◌, OnOk, OnErr};
+ghost use Rattle.graph_record.specs.declared.object.Object.TheVariants.{Edge, Vertex};
+ghost use Rattle.undo_delta.specs.Apply.{after_part};
+
+use crate::changing::put_object;
 use crate::edit::write_property;
 use crate::same::same_objects;
-use crate::{Delta, NoMemory};
-use graph_record::Object;
+use crate::{Delta, Former, NoMemory};
+use graph_record::{EdgeRecord, Object, VertexRecord};
 use std::alloc::Global;
 use undo_law::Undo;
 
@@ -23,71 +28,16 @@ impl Undo for GraphUndo {
     fn apply(alloc: Global, object: &mut Object, delta: &Delta) -> Result<(), NoMemory> {
         match delta {
             Delta::DeleteObject => {
-                *object = Object::Dead;
+                put_object(object, Object::Dead);
                 Ok(())
             }
-            Delta::RecreateObject(former) => {
-                *object = former.copy(alloc)?;
-                Ok(())
-            }
-            Delta::SetProperty(name, value) => match object {
-                Object::Dead => Ok(()),
-                Object::Vertex(vertex) => {
-                    write_property(alloc, &mut vertex.props, name, value)?;
-                    Ok(())
-                }
-                Object::Edge(edge) => {
-                    write_property(alloc, &mut edge.props, name, value)?;
-                    Ok(())
-                }
-            },
-            Delta::AddLabel(name) => match object {
-                Object::Vertex(vertex) => {
-                    vertex.labels.add(name.copy(alloc)?)?;
-                    Ok(())
-                }
-                Object::Dead | Object::Edge(_) => Ok(()),
-            },
-            Delta::RemoveLabel(name) => match object {
-                Object::Vertex(vertex) => {
-                    vertex.labels.remove(name.as_str());
-                    Ok(())
-                }
-                Object::Dead | Object::Edge(_) => Ok(()),
-            },
-            Delta::AddInEdge(id) => match object {
-                Object::Vertex(vertex) => {
-                    vertex.ins.add(*id)?;
-                    Ok(())
-                }
-                Object::Dead | Object::Edge(_) => Ok(()),
-            },
-            Delta::AddOutEdge(id) => match object {
-                Object::Vertex(vertex) => {
-                    vertex.outs.add(*id)?;
-                    Ok(())
-                }
-                Object::Dead | Object::Edge(_) => Ok(()),
-            },
-            Delta::RemoveInEdge(id) => match object {
-                Object::Vertex(vertex) => {
-                    vertex.ins.remove(*id);
-                    Ok(())
-                }
-                Object::Dead | Object::Edge(_) => Ok(()),
-            },
-            Delta::RemoveOutEdge(id) => match object {
-                Object::Vertex(vertex) => {
-                    vertex.outs.remove(*id);
-                    Ok(())
-                }
-                Object::Dead | Object::Edge(_) => Ok(()),
-            },
+            Delta::RecreateObject(former) => recreate(object, former),
+            _ => apply_to_part(alloc, object, delta),
         }
     }
 
-    fn copy_object(alloc: Global, object: &Object) -> Result<Object, NoMemory> {
-        object.copy(alloc)
+    fn copy_object(_: Global, object: &Object) -> Result<Object, NoMemory> {
+        object.copy()
     }
 
     fn copy_delta(alloc: Global, delta: &Delta) -> Result<Delta, NoMemory> {
@@ -101,4 +51,65 @@ impl Undo for GraphUndo {
     fn same_object(a: &Object, b: &Object) -> bool {
         same_objects(a, b)
     }
+}
+
+fn recreate(object: &mut Object, former: &Former) -> Result<(), NoMemory>
+    ensures ok { OnOk result (object.new ≡ former.now) }
+    ensures err { OnErr result (object.new ≡ object.old) }
+{
+    put_object(object, former.as_object().copy()?);
+    Ok(())
+}
+
+/// Applies a delta that changes a part of the object.
+fn apply_to_part(alloc: Global, object: &mut Object, delta: &Delta) -> Result<(), NoMemory>
+    ensures ok { OnOk result (object.new ≡ after_part object.old delta.now) }
+    ensures err { OnErr result (object.new ≡ object.old) }
+{
+    match object {
+        Object::Dead => Ok(()),
+        Object::Vertex(vertex) => apply_to_vertex(alloc, vertex, delta),
+        Object::Edge(edge) => apply_to_edge(alloc, edge, delta),
+    }
+}
+
+fn apply_to_edge(alloc: Global, edge: &mut EdgeRecord, delta: &Delta) -> Result<(), NoMemory>
+    ensures ok { OnOk result (Edge edge.new ≡ after_part (Edge edge.old) delta.now) }
+    ensures err { OnErr result (edge.new ≡ edge.old) }
+{
+    if let Delta::SetProperty(setting) = delta {
+        write_property(alloc, &mut edge.props, setting.name(), setting.value())?;
+    }
+    Ok(())
+}
+
+fn apply_to_vertex(alloc: Global, vertex: &mut VertexRecord, delta: &Delta) -> Result<(), NoMemory>
+    ensures ok { OnOk result (Vertex vertex.new ≡ after_part (Vertex vertex.old) delta.now) }
+    ensures err { OnErr result (vertex.new ≡ vertex.old) }
+{
+    match delta {
+        Delta::SetProperty(setting) => {
+            write_property(alloc, &mut vertex.props, setting.name(), setting.value())?;
+        }
+        Delta::AddLabel(name) => {
+            vertex.labels.add(name.copy(alloc)?)?;
+        }
+        Delta::RemoveLabel(name) => {
+            vertex.labels.remove(name.as_str())?;
+        }
+        Delta::AddInEdge(id) => {
+            vertex.ins.add(*id)?;
+        }
+        Delta::AddOutEdge(id) => {
+            vertex.outs.add(*id)?;
+        }
+        Delta::RemoveInEdge(id) => {
+            vertex.ins.remove(*id)?;
+        }
+        Delta::RemoveOutEdge(id) => {
+            vertex.outs.remove(*id)?;
+        }
+        Delta::DeleteObject | Delta::RecreateObject(_) => {}
+    }
+    Ok(())
 }

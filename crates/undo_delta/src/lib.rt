@@ -15,19 +15,24 @@ mod delta;
 mod edit;
 mod ends;
 mod form;
+mod former;
 mod graph_undo;
 mod op;
 mod same;
-#[cfg(test)]
-mod tests;
+mod setting;
 
 pub use ask::Ask;
 pub use changing::change;
 pub use delta::{Delta, DeltaPair};
 pub use edit::is_kept_value;
+pub use former::Former;
 pub use graph_undo::GraphUndo;
 pub use op::Op;
+pub use setting::Setting;
 use std::alloc::AllocError;
 
 /// Memory was wanting. No contract says when this answer comes.
 pub type NoMemory = AllocError;
+
+#[cfg(test)]
+mod tests;

@@ -1,8 +1,7 @@
 //! Whether two objects are the same, part by part.
 ghost use Rattle.std.specs.Prelude.{◌≡◌, ◌↔◌, IsTrue};
 
-use graph_record::{EdgeIds, EdgeRecord, Labels, Object, Properties, VertexRecord};
-use graph_value::Name;
+use graph_record::{EdgeIds, EdgeRecord, Kind, Labels, Object, Properties, VertexRecord};
 
 pub(crate) fn same_objects(a: &Object, b: &Object) -> bool
     ensures { IsTrue result ↔ (a.now ≡ b.now) }
@@ -27,13 +26,13 @@ fn same_vertices(a: &VertexRecord, b: &VertexRecord) -> bool
 fn same_edges(a: &EdgeRecord, b: &EdgeRecord) -> bool
     ensures { IsTrue result ↔ (a.now ≡ b.now) }
 {
-    same_names(&a.kind, &b.kind)
+    same_kinds(&a.kind, &b.kind)
         && a.from == b.from
         && a.to == b.to
         && same_properties(&a.props, &b.props)
 }
 
-fn same_names(a: &Name, b: &Name) -> bool
+fn same_kinds(a: &Kind, b: &Kind) -> bool
     ensures { IsTrue result ↔ (a.now ≡ b.now) }
 {
     a.as_str() == b.as_str()

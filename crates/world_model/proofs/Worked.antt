@@ -104,7 +104,7 @@ reset = record {
 
 -- what each set leaves, where it changes nothing or gives back the old value
 left : Bool → Value → List Delta
-left same old = both (cond same no_delta (one_delta (delta.SetProperty k old))) ++ []
+left same old = both (cond same no_delta (one_delta (delta.SetProperty (k, old)))) ++ []
 
 told : Bool → Bool → Bool → List (Dated Delta)
 told first second third = reverse (dated 2 (delta.DeleteObject ∷ left first Null) ++ (dated 4 (left second (Int (pos 1))) ++ (dated 6 (left third (Int (pos 2))) ++ [])))
@@ -119,7 +119,7 @@ two_and_null = apart (Int (pos 2)) Null (λ same. cc)
 
 -- each has the old value, and null where there was none
 reset_deltas : undo_list reset (oid.Vertex v)
-    ≡ at 6 (delta.SetProperty k (Int (pos 2))) ∷ at 4 (delta.SetProperty k (Int (pos 1))) ∷ at 2 (delta.SetProperty k Null) ∷ at 2 delta.DeleteObject ∷ []
+    ≡ at 6 (delta.SetProperty (k, Int (pos 2))) ∷ at 4 (delta.SetProperty (k, Int (pos 1))) ∷ at 2 (delta.SetProperty (k, Null)) ∷ at 2 delta.DeleteObject ∷ []
 unfolding at left told left_by_all left_since apply_all values.out-Value values.roll-Value denote.Hole.Carrier.out denote.Hole.Carrier.roll
 reset_deltas =
     let as_told : undo_list reset (oid.Vertex v) ≡ told (same_value Null (Int (pos 1))) (same_value (Int (pos 1)) (Int (pos 2))) (same_value (Int (pos 2)) Null) = refl in

@@ -11,4 +11,4 @@ pub returns : goal.returns
 returns c =
     let facts = c.binary_search_by.ensures in
     let by_element = facts.position (λ known. edge_cmp known c.args.id) (search (rules, always_returns_same)) in
-    rw (← c.self.view_is, ← c.deref.ensures.value) (searched edge_cmp_total itself c.args.id _ (rw c.deref.ensures.value c.self.invariant) _ facts.bound by_element)
+    rw (← c.as_slice.ensures.value) (searched edge_cmp_total itself c.args.id _ (rw c.as_slice.ensures.value c.as_slice.ensures.ascending) _ facts.bound by_element)

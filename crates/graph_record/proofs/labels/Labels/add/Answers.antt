@@ -14,7 +14,7 @@ returns-in-Ok-clause-is_new c = rw (← c.as_str.ensures.text) (ap not (sym (has
 -- the label is inserted in the gap
 pub returns-in_ok-insert-in-Err-clause-ok : goal.returns-in_ok-insert-in-Err-clause-ok
 returns-in_ok-insert-in-Err-clause-ok c =
-    rw (c.in_ok-insert-in-Err.ensures.items, c.self.view_is, ← c.as_str.ensures.text) (sym (added_gap nat_list_cmp_total _ _ _ c.in-Err.ensures.absent))
+    rw (c.in_ok-insert-in-Err.ensures.ok, c.self.view_is, ← c.as_str.ensures.text) (sym (added_gap nat_list_cmp_total _ _ _ c.in-Err.ensures.absent))
 
 pub returns-in_ok-insert-in-Err-clause-is_new : goal.returns-in_ok-insert-in-Err-clause-is_new
 returns-in_ok-insert-in-Err-clause-is_new c = rw (← c.as_str.ensures.text) (ap not (sym (has_gap nat_list_cmp_total _ _ _ c.in-Err.ensures.absent)))
@@ -22,7 +22,7 @@ returns-in_ok-insert-in-Err-clause-is_new c = rw (← c.as_str.ensures.text) (ap
 pub invariant_of-self-in-Err : goal.invariant_of-self-in-Err
 invariant_of-self-in-Err c =
     let inserted = added_gap nat_list_cmp_total _ _ _ c.in-Err.ensures.absent in
-    rw (c.in_ok-insert-in-Err.ensures.items, c.self.view_is, ← c.as_str.ensures.text) (subst IsAscendingNames inserted (added_ascends nat_list_cmp_total c.as_str.result.now c.args.self.now (rw c.self.view_is at c.self.invariant)))
+    rw (c.in_ok-insert-in-Err.ensures.ok, c.self.view_is, ← c.as_str.ensures.text) (subst IsAscendingNames inserted (added_ascends nat_list_cmp_total c.as_str.result.now c.args.self.now (rw c.self.view_is at c.self.invariant)))
 
 -- memory can be wanting only for what was not there
 pub returns-in_err-insert-in-Err-clause-there : goal.returns-in_err-insert-in-Err-clause-there

@@ -11,4 +11,4 @@ pub returns : goal.returns
 returns c =
     let facts = c.binary_search_by.ensures in
     let by_element = facts.position (λ known. name_cmp known c.args.name.now) (search (rules, always_returns_same)) in
-    rw (← c.self.view_is, ← c.deref.ensures.value) (searched nat_list_cmp_total itself c.args.name.now _ (rw c.deref.ensures.value c.self.invariant) _ facts.bound by_element)
+    rw (← c.self.view_is, ← c.as_slice.ensures) (searched nat_list_cmp_total itself c.args.name.now _ (rw c.as_slice.ensures c.self.invariant) _ facts.bound by_element)

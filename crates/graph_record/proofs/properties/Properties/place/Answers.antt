@@ -12,4 +12,4 @@ pub returns : goal.returns
 returns c =
     let facts = c.binary_search_by.ensures in
     let by_name = facts.position (λ property. name_cmp property.0 c.args.name.now) (search (rules, always_returns_same)) in
-    rw (← c.self.view_is, ← c.deref.ensures.value) (searched nat_list_cmp_total key_of c.args.name.now _ (rw c.deref.ensures.value (sym (sorted_ascends {X = Value} nat_list_cmp_total c.self.inside.items.items) ∙ c.self.invariant.ascending)) _ facts.bound by_name)
+    rw (← c.self.view_is, ← c.as_slice.ensures) (searched nat_list_cmp_total key_of c.args.name.now _ (rw c.as_slice.ensures (sym (sorted_ascends {X = Value} nat_list_cmp_total c.self.inside.items) ∙ c.self.invariant.ascending)) _ facts.bound by_name)
