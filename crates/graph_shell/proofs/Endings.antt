@@ -1,5 +1,5 @@
 -- A run's record, from what is known at its ending.
-use Rattle.std.proofs.Common.{◌≡◌, ◌≤◌, ◌<◌, ℕ, ◌-◌, ◌+◌, List, [], ◌++◌, length, refl, arith, lit<}
+use Rattle.std.proofs.Common.{◌≡◌, ℕ, ◌-◌, length, refl, arith, lit<}
 use Rattle.std.specs.Prelude.{Contains}
 use Rattle.wire_line.specs.declared.source.Source as source
 use Rattle.wire_line.specs.declared.sink.Sink as sink

@@ -1,11 +1,6 @@
 -- What the program's words ask for, and what it does then.
 use Rattle.std.specs.Prelude.{◌≡◌, ◌⊎◌, ℕ, List, [], ◌∷◌, ◌++◌, map, take, drop, codes, string_bytes, Option, Some, None, IfSome, IfNone, Contains, if◌then◌else◌, String}
 use Rattle.std.specs.Str.{bytes_eq}
-use Rattle.std.specs.IoError.{error_kind}
-use Rattle.std.specs.Vec.Iter.{into_iter_items}
-use Rattle.std.specs.declared.io.ErrorKind.{ErrorKind}
-use Rattle.std.specs.declared.io.ErrorKind.TheVariants.{OutOfMemory}
-use Rattle.std.specs.declared.io.Error.{Error}
 use Rattle.std.specs.declared.alloc.Global.{Global}
 use Rattle.wire_line.specs.declared.source.Source as source
 use Rattle.wire_line.specs.declared.sink.Sink as sink

@@ -1,15 +1,12 @@
 -- Each turn answers one more line.
-use Rattle.std.proofs.Common.{◌≡◌, ◌≤◌, ◌++◌, ◌-◌, ◌+◌, ℕ, List, [], take, length, string_bytes, ap, sym, subst, ◌∙◌, arith, refl}
+use Rattle.std.proofs.Common.{◌≡◌, ◌++◌, ◌+◌, take, length, string_bytes, ap, subst, ◌∙◌, arith}
 use Rattle.std.specs.Prelude.{Err}
-use Rattle.world_model.specs.History.{Entry}
-use Rattle.front_core.specs.Keeps.{StandsFor, first_start}
 use Rattle.wire_line.specs.Calls.{WhereTaken}
-use Rattle.wire_line.specs.Intake.{within_limit}
 use Rattle.wire_line.proofs.Told.{told_same, told_then, told_weaker, told_both, together_same, together_then}
 use Rattle.graph_shell.specs.declared.run.Ending.{Ending}
-use Rattle.graph_shell.specs.declared.run.Ending.TheVariants.{Done, SourceFault, SinkFault, NoMemory, Limit}
+use Rattle.graph_shell.specs.declared.run.Ending.TheVariants.{SinkFault, NoMemory}
 use Rattle.graph_shell.specs.Runs.{Continues, IsEndingAfter}
-use Rattle.graph_shell.proofs.Endings.{Ends, run_ends}
+use Rattle.graph_shell.proofs.Endings.{run_ends}
 use Rattle.graph_shell.proofs.SoFar.{SoFar, at_first, one_more, answers_all, answers_read, answers_within, front_of, front_of_nothing, front_of_reply}
 use Rattle.graph_shell.proofs.run.answer_all.Goals as goal
 
