@@ -31,7 +31,8 @@ pub record ShowsUsage {O : Type 0} (h : sink.Ghosts O) (output output' : O) (sta
   pub sink : status ≡ 4 → SinkRose h output output'
 
 -- What words lead to: the run of their command, or else the usage line, with the input untouched.
-pub record Does {I O : Type 0} (g : source.Ghosts I) (h : sink.Ghosts O) (words : List (List ℕ)) (input input' : I) (output output' : O) (status : ℕ) : Type 0 where
+pub record Does {I O : Type 0} (g : source.Ghosts I) (h : sink.Ghosts O) (words : List (List ℕ)) (input input' : I)
+    (output output' : O) (status : ℕ) : Type 0 where
   pub events : IfSome (command_of words) (λ _. Run g h input input' output output' status)
   pub usage : IfNone (command_of words) (ShowsUsage h output output' status)
   pub untouched : IfNone (command_of words) (input' ≡ input)
@@ -42,7 +43,9 @@ pub record LacksMemory {I O : Type 0} (input input' : I) (output output' : O) (s
   pub unread : input' ≡ input
   pub unwritten : output' ≡ output
 
-abbrev pub DoesOrLacks : {I O : Type 0} → source.Ghosts I → sink.Ghosts O → (words : List (List ℕ)) → (input input' : I) → (output output' : O) → (status : ℕ) → Type 0
+-- One of both.
+abbrev pub DoesOrLacks : {I O : Type 0} → source.Ghosts I → sink.Ghosts O → (words : List (List ℕ))
+    → (input input' : I) → (output output' : O) → (status : ℕ) → Type 0
 DoesOrLacks g h words input input' output output' status =
     Does g h words input input' output output' status ⊎ LacksMemory input input' output output' status
 

@@ -61,7 +61,8 @@ pub record IsStatusAfter (status read : ℕ) : Type 0 where
   pub always : INPUT_LIMIT < read → status ≡ 7
 
 -- What was read, what was written at which status, and which count rose.
-pub record Run {I O : Type 0} (g : source.Ghosts I) (h : sink.Ghosts O) (input input' : I) (output output' : O) (status : ℕ) : Type 0 where
+pub record Run {I O : Type 0} (g : source.Ghosts I) (h : sink.Ghosts O) (input input' : I) (output output' : O)
+    (status : ℕ) : Type 0 where
   pub statuses : Contains run_statuses status
   pub same_input : SameInput g input input'
   pub done : status ≡ 0 → WhereLeft g input input' (λ left left'. WhereTaken h output output' (AnswersAll left left'))
@@ -75,7 +76,8 @@ pub record Run {I O : Type 0} (g : source.Ghosts I) (h : sink.Ghosts O) (input i
 -- ONE TURN
 
 -- The first of the lines ahead was answered, and it is given away.
-pub record AnswersNext (new : Kept) (text : List ℕ) (before after : Intake) (ahead rest : List ℕ) (es : List Entry) : Type 0 where
+pub record AnswersNext (new : Kept) (text : List ℕ) (before after : Intake) (ahead rest : List ℕ)
+    (es : List Entry) : Type 0 where
   pub there : ahead ≢ []
   pub answers : AnswersLine (λ wanting w. answer_line wanting w (first_line ahead)) new text es
   pub behind : rest ≡ after_line ahead
@@ -83,13 +85,16 @@ pub record AnswersNext (new : Kept) (text : List ℕ) (before after : Intake) (a
 
 -- What a turn says of the bytes ahead: a line was answered, or there is none, or where the input stopped. It begins
 -- where no line is being passed over.
-abbrev pub Continues : Result Unit Ending → (new : Kept) (text : List ℕ) (before after : Intake) (left left' : List ℕ) (es : List Entry) → Type 0
-Continues (Ok _) new text before after left left' es = AnswersNext new text before after (before.waiting ++ left) (after.waiting ++ left') es
+abbrev pub Continues : Result Unit Ending → (new : Kept) (text : List ℕ) (before after : Intake) (left left' : List ℕ)
+    (es : List Entry) → Type 0
+Continues (Ok _) new text before after left left' es =
+    AnswersNext new text before after (before.waiting ++ left) (after.waiting ++ left') es
 Continues (Err Done) new text before after left left' es = IsEnd before (before.waiting ++ left) (after.waiting ++ left')
 Continues (Err SourceFault) new text before after left left' es = StillAhead before after left left' × HasNoEnd after.waiting
 Continues (Err SinkFault) new text before after left left' es = Unit {0}
 Continues (Err NoMemory) new text before after left left' es = Unit {0}
-Continues (Err Limit) new text before after left left' es = before.taken ≤ INPUT_LIMIT → GoesPast (within_limit before) (before.waiting ++ left)
+Continues (Err Limit) new text before after left left' es =
+    before.taken ≤ INPUT_LIMIT → GoesPast (within_limit before) (before.waiting ++ left)
 
 -- How many bytes were taken before this ending: more than the limit exactly where that is the cause.
 abbrev pub IsEndingAfter : Ending → ℕ → Type 0

@@ -49,7 +49,8 @@ pub record IsFound (len : ℕ) (reader : Intake) : Type 0 where
 
 -- what waits where no line end was found
 abbrev pub IsStoppedBy : Stop → Intake → Type 0
-IsStoppedBy stop.Ended reader = (reader.taken ≤ INPUT_LIMIT) × HasNoEnd reader.waiting × (length reader.waiting ≤ LINE_LIMIT)
+IsStoppedBy stop.Ended reader =
+    (reader.taken ≤ INPUT_LIMIT) × HasNoEnd reader.waiting × (length reader.waiting ≤ LINE_LIMIT)
 IsStoppedBy stop.Limit reader = reader.taken ≡ INPUT_LIMIT + 1
 IsStoppedBy stop.Fault reader = reader.taken ≤ INPUT_LIMIT
 
