@@ -9,7 +9,6 @@
 #   as without a fault          the allocation wasn't reached, or wasn't needed
 #   line L found no memory      its reply is `refused 11 no memory`, and all others are those of a run without line L
 #   status 5 behind R replies   the run ended, and these are the first of the replies
-#   status 1 and no reply       the words of the command found no memory, before the run began
 #
 # All else is WRONG: a reply that is lost, changed or given twice. The last line counts them, and the script's status is
 # 1 where there is one.
@@ -48,8 +47,6 @@ judge() {
     count="$(wc -l <"$room/replies")"
     if [ "$status" -eq 0 ] && cmp -s "$room/whole" "$room/replies"; then
         echo "as without a fault"
-    elif [ "$status" -eq 1 ] && [ ! -s "$room/replies" ]; then
-        echo "status 1 and no reply"
     elif [ "$status" -eq 5 ] && cmp -s <(head -n "$count" "$room/whole") "$room/replies"; then
         echo "status 5 behind $count replies"
     elif [ "$status" -eq 0 ] && [ "$(grep -c ' refused 11 no memory$' "$room/replies")" -eq 1 ]; then

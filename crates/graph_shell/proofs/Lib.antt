@@ -1,9 +1,12 @@
+mod Answering
+mod Endings
+mod ManyWords
 mod Names
 mod Numbers
+mod Pieces
 mod Pushed
 mod Read
+mod SoFar
 mod Spelled
-mod Answering
 mod Turns
-mod Endings
 mod Worked

@@ -64,9 +64,13 @@ lines_text wanting w (line ∷ lines) =
     (answer_line (first_wanting wanting) w line).text
     ++ lines_text (later_wanting wanting) (answer_line (first_wanting wanting) w line).world lines
 
--- The text that answers an event list, where the lines that `wanting` marks found no memory.
+-- the answers to the lines of a run, where the lines that `wanting` marks found no memory
+abbrev pub answers_text : List Bool → List (List ℕ) → List ℕ
+answers_text wanting lines = lines_text wanting (start_world first_start) lines
+
+-- The text that answers an event list.
 abbrev pub events_text : List Bool → List ℕ → List ℕ
-events_text wanting bytes = lines_text wanting (start_world first_start) (lines_of bytes)
+events_text wanting bytes = answers_text wanting (lines_of bytes)
 
 -- One line was answered: the text is the definition's, and the core stands for a history that comes to its world.
 pub record AnswersLine (answer : Bool → World → Answered) (new : Kept) (text : List ℕ) (es : List Entry) : Type 0 where

@@ -3,13 +3,15 @@
 
 mod answer;
 mod command;
+mod program;
 mod reply;
 mod request;
 mod run;
 mod spelling;
 
 pub use answer::answer_line;
-pub use command::{Command, aeong_main, read_words};
+pub use command::{Command, aeong_main, read_words, show_usage};
+pub use program::{answer_args, run_program};
 pub use reply::{push_bad_line, push_reply};
 pub use request::{Request, is_skipped, read_request};
 pub use run::run_events;

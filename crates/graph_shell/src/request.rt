@@ -1,4 +1,4 @@
-ghost use Rattle.std.specs.Prelude.{◌≡◌, IfOk, map};
+ghost use Rattle.std.specs.Prelude.{◌≡◌, ◌==◌, IfOk, map};
 ghost use Rattle.std.specs.List.{list_all};
 ghost use Rattle.graph_shell.specs.Request.{event_of, is_blank, is_skipped, plain_event, read_event, request_from_words, request_of, set_event};
 
@@ -13,11 +13,17 @@ use std::alloc::Global;
 use world_model::{Ask, Event, When};
 
 /// What one line asks for.
-#[derive(Debug, Drop)]
+#[derive(Drop)]
 pub struct Request {
     /// Who asks, below 2^32.
     pub caller: u64,
     pub event: Event,
+}
+
+fn is_space(b: &u8) -> bool
+    ensures { result ≡ (b.now == 32) }
+{
+    *b == b' '
 }
 
 /// Whether a line has nothing but spaces and tabs.
@@ -37,14 +43,25 @@ pub fn is_skipped(line: &[u8]) -> bool
     }
 }
 
-/// The request that a line is, or `None` where it is none. The line comes without its end.
+/// The most words that a request has.
+const MOST_WORDS: usize = 5;
+
+/// The request that a line is, or `None` where it is none. The line comes without its end. Its words take no memory.
 ///
-/// The error says that memory was wanting.
+/// The error says that memory was wanting for a name.
 pub fn read_request(alloc: Global, line: &[u8]) -> Result<Option<Request>, NoMemory>
     ensures { IfOk result (λ r. r ≡ request_of line.now) }
 {
-    let words: Vec<&[u8]> = line.split(|b| *b == b' ').collect(alloc)?;
-    request_from_words(alloc, words.as_slice())
+    let mut words: [&[u8]; MOST_WORDS] = [&[]; MOST_WORDS];
+    let mut count = 0;
+    for word in line.split(is_space) {
+        if count == MOST_WORDS {
+            return Ok(None);
+        }
+        words[count] = word;
+        count += 1;
+    }
+    request_from_words(alloc, &words[..count])
 }
 
 /// The request whose words these are.

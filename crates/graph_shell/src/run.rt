@@ -1,10 +1,8 @@
-ghost use Rattle.std.specs.Prelude.{◌≡◌, ◌≢◌, ◌≤◌, ◌-◌, ◌++◌, List, length, string_bytes};
-ghost use Rattle.wire_line.specs.Failures.{Rose};
-ghost use Rattle.wire_line.specs.Telling.{WhereSourceTells, WhereSinkTells};
-ghost use Rattle.wire_line.specs.Intake.{Moves};
+ghost use Rattle.std.specs.Prelude.{◌≡◌, ◌≢◌, List, false, string_bytes};
+ghost use Rattle.wire_line.specs.Calls.{Reads, SourceRose, WhereLeft};
 ghost use Rattle.world_model.specs.History.{Entry};
 ghost use Rattle.front_core.specs.Keeps.{StandsFor, first_start};
-ghost use Rattle.graph_shell.specs.Runs.{AnswersEvents, Continues, IsEndingAfter, IsStatusAfter, IsTurnAfter, WritesFront, status_of};
+ghost use Rattle.graph_shell.specs.Runs.{Continues, IsAnchor, IsTurnAfter, Run, status_of};
 
 use crate::answer::answer_line;
 use crate::reply::push_bad_line;
@@ -13,7 +11,7 @@ use std::alloc::Global;
 use wire_line::{Line, Lines, Sink, Source, write_whole};
 
 /// Why a run ended.
-#[derive(Clone, Copy, Debug, PartialEq, Eq)]
+#[derive(Clone, Copy)]
 pub enum Ending {
     /// The input was read to its end.
     Done,
@@ -30,8 +28,7 @@ pub enum Ending {
 impl Ending {
     /// The status with which the program ends.
     fn status(self) -> u8
-        ensures status { result ≡ status_of self }
-        ensures no_usage { result ≢ 2 }
+        ensures { result ≡ status_of self }
     {
         match self {
             Ending::Done => 0,
@@ -51,16 +48,12 @@ fn answer_next<I: Source>(
     reply: &mut String,
     input: &mut I,
 ) -> Result<(), Ending>
-    ensures bytes { WhereSourceTells
-        (I.came input.old) (I.left input.old) (I.came input.new) (I.left input.new)
-        (λ _ left _ left'. (es : List Entry) → StandsFor first_start core.old es
-        → Continues result core.new (string_bytes reply.new) (lines.old.waiting ++ left) (lines.new.waiting ++ left') es) }
-    ensures moves { WhereSourceTells
-        (I.came input.old) (I.left input.old) (I.came input.new) (I.left input.new)
-        (Moves lines.old lines.new) }
+    ensures turn { WhereLeft I.Source input.old input.new (λ left left'.
+        (es : List Entry) → StandsFor first_start core.old es → lines.old.passing ≡ false
+        → Continues result core.new (string_bytes reply.new) lines.old lines.new left left' es) }
+    ensures reads { Reads I.Source input.old input.new lines.old lines.new }
     ensures limit { IsTurnAfter result lines.new.taken }
-    ensures fault { result ≡ Err Ending.SourceFault → Rose (I.faults input.old) (I.faults input.new) }
-    ensures faults { I.faults input.old ≤ I.faults input.new }
+    ensures fault { result ≡ Err Ending.SourceFault → SourceRose I.Source input.old input.new }
     ensures no_sink { result ≢ Err Ending.SinkFault }
 {
     match lines.next(input) {
@@ -82,22 +75,17 @@ fn answer_next<I: Source>(
 }
 
 /// Answers line after line, each behind the one before it, until the run ends.
-fn answer_all<I: Source, O: Sink>(alloc: Global, input: &mut I, output: &mut O) -> Ending
-    ensures text { WhereSourceTells
-        (I.came input.old) (I.left input.old) (I.came input.new) (I.left input.new)
-        (λ _ left _ left'. WhereSinkTells (O.taken output.old) (O.taken output.new)
-        (λ taken taken'. result ≡ Ending.Done → AnswersEvents left left' taken taken')) }
-    ensures front { WhereSourceTells
-        (I.came input.old) (I.left input.old) (I.came input.new) (I.left input.new)
-        (λ _ left _ _. WhereSinkTells (O.taken output.old) (O.taken output.new) (WritesFront left)) }
-    ensures limit { WhereSourceTells
-        (I.came input.old) (I.left input.old) (I.came input.new) (I.left input.new)
-        (λ came _ came' _. IsEndingAfter result (length came' - length came)) }
-    ensures source { result ≡ Ending.SourceFault → Rose (I.faults input.old) (I.faults input.new) }
-    ensures sink { result ≡ Ending.SinkFault → Rose (O.faults output.old) (O.faults output.new) }
+fn answer_all<I: Source, O: Sink>(
+    alloc: Global,
+    anchor: u64,
+    input: &mut I,
+    output: &mut O,
+) -> Ending
+    requires anchor { IsAnchor anchor }
+    ensures run { Run I.Source O.Sink input.old input.new output.old output.new (status_of result) }
 {
     let mut reply = String::new(alloc);
-    let (Ok(mut core), Ok(mut lines)) = (Core::new(alloc, 1), Lines::new(alloc)) else {
+    let (Ok(mut core), Ok(mut lines)) = (Core::new(alloc, anchor), Lines::new(alloc)) else {
         return Ending::NoMemory;
     };
     // An input within its limit has fewer lines than there are turns.
@@ -113,25 +101,20 @@ fn answer_all<I: Source, O: Sink>(alloc: Global, input: &mut I, output: &mut O) 
     Ending::NoMemory
 }
 
-/// Answers an event list, and ends with the program's status.
+/// Answers an event list, and ends with the program's status. `anchor` is the number of deltas in a block of history,
+/// from 1 to 1,024.
 ///
-/// Status 0: the source was read to its end, and the sink took the text that answers the list. 3: the source failed,
-/// 4: the sink failed, and each only where the count of its faults rose. 5: memory was wanting. 7: the input goes on
-/// behind its limit. At each of them a front of that text was written, and nothing else.
-pub fn run_events<I: Source, O: Sink>(alloc: Global, input: &mut I, output: &mut O) -> u8
-    ensures text { WhereSourceTells
-        (I.came input.old) (I.left input.old) (I.came input.new) (I.left input.new)
-        (λ _ left _ left'. WhereSinkTells (O.taken output.old) (O.taken output.new)
-        (λ taken taken'. result ≡ 0 → AnswersEvents left left' taken taken')) }
-    ensures front { WhereSourceTells
-        (I.came input.old) (I.left input.old) (I.came input.new) (I.left input.new)
-        (λ _ left _ _. WhereSinkTells (O.taken output.old) (O.taken output.new) (WritesFront left)) }
-    ensures limit { WhereSourceTells
-        (I.came input.old) (I.left input.old) (I.came input.new) (I.left input.new)
-        (λ came _ came' _. IsStatusAfter result (length came' - length came)) }
-    ensures source { result ≡ 3 → Rose (I.faults input.old) (I.faults input.new) }
-    ensures sink { result ≡ 4 → Rose (O.faults output.old) (O.faults output.new) }
-    ensures no_usage { result ≢ 2 }
+/// Status 0: the source was read to its end, and the sink took the text that answers the list. 3: the source failed;
+/// the lines that ended before are answered. 4: the sink failed. 5: memory was wanting. 7: the input goes on behind its
+/// limit; the lines that ended within it are answered. At each a front of the text was written, and nothing else.
+pub fn run_events<I: Source, O: Sink>(
+    alloc: Global,
+    anchor: u64,
+    input: &mut I,
+    output: &mut O,
+) -> u8
+    requires anchor { IsAnchor anchor }
+    ensures run { Run I.Source O.Sink input.old input.new output.old output.new result }
 {
-    answer_all(alloc, input, output).status()
+    answer_all(alloc, anchor, input, output).status()
 }

@@ -1,17 +1,19 @@
 use crate::{
-    Command, NoMemory, aeong_main, answer_line, is_skipped, push_bad_line, read_request, read_words,
+    Command, NoMemory, aeong_main, answer_args, answer_line, is_skipped, push_bad_line,
+    read_request, read_words, run_events,
 };
 use front_core::Core;
 use graph_value::Text;
 use std::alloc::Global;
+use std::io;
 use std::test::Fail;
-use wire_line::{MemorySink, MemorySource, SameBytes};
+use wire_line::{MemorySink, MemorySource, SameBytes, Source};
 
 /// What a source gives.
 #[derive(Clone, Copy)]
 enum Input {
     Bytes(&'static [u8]),
-    /// So many times the byte `x`, between two texts.
+    /// So many times the filling, between two texts.
     Filled(&'static [u8], usize, &'static [u8]),
     /// So many line ends.
     LineEnds(u64),
@@ -22,6 +24,8 @@ struct Case {
     name: &'static str,
     word: &'static str,
     input: Input,
+    /// The byte that fills an input.
+    filling: u8,
     /// The most bytes of a read, and the read that fails, where one does.
     read: (usize, Option<u64>),
     /// The most bytes of a write, and the write that fails, where one does.
@@ -34,13 +38,14 @@ const PLAIN: Case = Case {
     name: "no line",
     word: "events",
     input: Input::Bytes(b""),
+    filling: b'x',
     read: (9, None),
     write: (5, None),
     status: 0,
     output: b"",
 };
 
-const CASES: [Case; 17] = [
+const CASES: [Case; 18] = [
     PLAIN,
     Case {
         name: "nothing is asked",
@@ -90,6 +95,13 @@ const CASES: [Case; 17] = [
         name: "a request of 65,537 bytes",
         input: Input::Filled(b"1 begin\n1 vertex\n1 set v0 ", 65_525, b" 1\r\n"),
         output: b"1 begin 1\n1 v0\n- refused 12 bad line\n",
+        ..PLAIN
+    },
+    Case {
+        name: "a bad line of very many words",
+        input: Input::Filled(b"1 set v0 k 1", 65_524, b"\n1 begin\n"),
+        filling: b' ',
+        output: b"- refused 12 bad line\n1 begin 1\n",
         ..PLAIN
     },
     Case {
@@ -161,72 +173,149 @@ fn one_or_none(alloc: Global, call: Option<u64>) -> Result<Vec<u64>, NoMemory> {
     Ok(calls)
 }
 
-fn filled(alloc: Global, front: &[u8], count: usize, back: &[u8]) -> Result<Vec<u8>, NoMemory> {
+fn filled(
+    alloc: Global,
+    front: &[u8],
+    filling: (u8, usize),
+    back: &[u8],
+) -> Result<Vec<u8>, NoMemory> {
+    let (byte, count) = filling;
     let mut bytes = front.to_vec(alloc)?;
-    let filling = vec![in alloc; b'x'; count]?;
-    bytes.extend_from_slice(filling.as_slice())?;
+    for _ in 0..count {
+        bytes.push(byte)?;
+    }
     bytes.extend_from_slice(back)?;
     Ok(bytes)
 }
 
-fn status_of(
+fn source(alloc: Global, case: &Case, bytes: Vec<u8>) -> Result<MemorySource, NoMemory> {
+    let (piece, fault) = case.read;
+    Ok(MemorySource::new(bytes, piece.max(1), one_or_none(alloc, fault)?))
+}
+
+fn sink(alloc: Global, case: &Case) -> Result<MemorySink, NoMemory> {
+    let (piece, fault) = case.write;
+    MemorySink::with_room(alloc, 400, piece.max(1), one_or_none(alloc, fault)?)
+}
+
+/// The status, where the case's output was written; 255 elsewhere.
+fn status_of<I: Source>(
     alloc: Global,
     case: &Case,
     words: &[Text],
-    output: &mut MemorySink,
+    input: &mut I,
 ) -> Result<u8, NoMemory> {
-    let bytes = match case.input {
-        Input::Bytes(bytes) => bytes.to_vec(alloc)?,
-        Input::Filled(front, count, back) => filled(alloc, front, count, back)?,
-        Input::LineEnds(count) => {
-            let mut input = SameBytes::new(b'\n', count);
-            return Ok(aeong_main(alloc, words, &mut input, output));
+    let mut output = sink(alloc, case)?;
+    let status = aeong_main(alloc, words, input, &mut output);
+    Ok(if output.bytes() == case.output {
+        status
+    } else {
+        255
+    })
+}
+
+fn case_status(alloc: Global, case: &Case, words: &[Text]) -> Result<u8, NoMemory> {
+    match case.input {
+        Input::Bytes(bytes) => {
+            let mut input = source(alloc, case, bytes.to_vec(alloc)?)?;
+            status_of(alloc, case, words, &mut input)
         }
-    };
-    let (piece, fault) = case.read;
-    let mut input = MemorySource::new(bytes, piece.max(1), one_or_none(alloc, fault)?);
-    Ok(aeong_main(alloc, words, &mut input, output))
+        Input::Filled(front, count, back) => {
+            let mut input = source(
+                alloc,
+                case,
+                filled(alloc, front, (case.filling, count), back)?,
+            )?;
+            status_of(alloc, case, words, &mut input)
+        }
+        Input::LineEnds(count) => {
+            status_of(alloc, case, words, &mut SameBytes::new(b'\n', count))
+        }
+    }
 }
 
 fn is_as_wanted(alloc: Global, case: &Case) -> Result<bool, NoMemory> {
-    let mut words = Vec::new(alloc);
-    words.push(Text::from_str(alloc, case.word)?)?;
-    let (piece, fault) = case.write;
-    let failing = one_or_none(alloc, fault)?;
-    let mut output = MemorySink::with_room(alloc, 400, piece.max(1), failing)?;
-    let status = status_of(alloc, case, words.as_slice(), &mut output)?;
-    Ok(status == case.status && output.bytes() == case.output)
+    let words = [Text::from_str(alloc, case.word)?];
+    Ok(case_status(alloc, case, &words)? == case.status)
 }
 
 #[test]
 fn each_status_has_its_cause(rt: HostRuntime) -> Result<(), Fail> {
-    let alloc = rt.alloc();
-    let mut others = String::new(alloc);
     for case in &CASES {
-        if !is_as_wanted(alloc, case)? {
-            others.push_str(case.name)?;
-            others.push_str("\n")?;
-        }
+        assert!(rt; is_as_wanted(rt.alloc(), case)?, "{}", case.name);
     }
-    assert_eq!(rt; others.as_str(), "");
     Ok(())
 }
 
 #[test]
-fn words_and_lines_are_read(rt: HostRuntime) -> Result<(), Fail> {
+fn words_are_read(rt: HostRuntime) -> Result<(), Fail> {
     let alloc = rt.alloc();
-    let mut words = Vec::new(alloc);
-    assert_eq!(rt; read_words(words.as_slice()), None);
-    words.push(Text::from_str(alloc, "events")?)?;
-    assert_eq!(rt; read_words(words.as_slice()), Some(Command::Events));
+    let words = [
+        Text::from_str(alloc, "events")?,
+        Text::from_str(alloc, "more")?,
+    ];
+    assert!(rt; read_words(&[]).is_none());
+    assert!(rt; read_words(&words).is_none());
+    assert!(rt; matches!(read_words(&words[..1]), Some(Command::Events { anchor: 1 })));
+    Ok(())
+}
+
+#[test]
+fn arguments_that_are_no_text_are_wrong_words(rt: HostRuntime) -> Result<(), Fail> {
+    let alloc = rt.alloc();
+    let mut output = sink(alloc, &PLAIN)?;
+    let args = Err(io::Error::from(io::ErrorKind::InvalidData));
+    let status = answer_args(alloc, args, &mut SameBytes::new(b'x', 1), &mut output);
+    assert_eq!(rt; status, 2);
+    assert_eq!(rt;
+        output.bytes(),
+        b"usage: aeong events|script|load|serve\n".as_slice()
+    );
+    Ok(())
+}
+
+#[test]
+fn arguments_without_memory_end_it(rt: HostRuntime) -> Result<(), Fail> {
+    let alloc = rt.alloc();
+    let mut output = sink(alloc, &PLAIN)?;
+    let args = Err(io::Error::from(io::ErrorKind::OutOfMemory));
+    let status = answer_args(alloc, args, &mut SameBytes::new(b'x', 1), &mut output);
+    assert_eq!(rt; status, 5);
+    assert!(rt; output.bytes().is_empty());
+    Ok(())
+}
+
+#[test]
+fn an_anchor_makes_no_difference(rt: HostRuntime) -> Result<(), Fail> {
+    let alloc = rt.alloc();
+    let mut output = sink(alloc, &PLAIN)?;
+    let mut input = source(alloc, &PLAIN, b"1 begin\n".to_vec(alloc)?)?;
+    assert_eq!(rt; run_events(alloc, 1024, &mut input, &mut output), 0);
+    assert_eq!(rt; output.bytes(), b"1 begin 1\n".as_slice());
+    Ok(())
+}
+
+#[test]
+fn lines_are_told_apart(rt: HostRuntime) -> Result<(), Fail> {
     assert!(rt; is_skipped(b"# note"));
-    assert!(rt; read_request(alloc, b"1 begin")?.is_some());
-    assert!(rt; read_request(alloc, b"1 jump")?.is_none());
+    assert!(rt; read_request(rt.alloc(), b"1 begin")?.is_some());
+    assert!(rt; read_request(rt.alloc(), b"1 jump")?.is_none());
+    Ok(())
+}
+
+#[test]
+fn a_line_is_answered(rt: HostRuntime) -> Result<(), Fail> {
+    let alloc = rt.alloc();
     let mut core = Core::new(alloc, 16)?;
     let mut reply = String::new(alloc);
     answer_line(alloc, &mut core, b"1 begin", &mut reply)?;
     assert_eq!(rt; reply.as_str(), "1 begin 1\n");
-    reply.clear();
+    Ok(())
+}
+
+#[test]
+fn a_bad_line_is_answered(rt: HostRuntime) -> Result<(), Fail> {
+    let mut reply = String::new(rt.alloc());
     push_bad_line(&mut reply)?;
     assert_eq!(rt; reply.as_str(), "- refused 12 bad line\n");
     Ok(())

@@ -46,7 +46,7 @@ no_end_from_length (b ∷ bytes) =
     ]
 
 -- a byte before bytes without a line end
-no_end-first : (b : ℕ) (bytes : List ℕ) → HasNoEnd (b ∷ bytes) → (eqb b 10 ≡ false) × HasNoEnd bytes
+pub no_end-first : (b : ℕ) (bytes : List ℕ) → HasNoEnd (b ∷ bytes) → (eqb b 10 ≡ false) × HasNoEnd bytes
 no_end-first b bytes =
     let P : Bool → Type 0 = λ t. cond t [] (b ∷ first_line bytes) ≡ b ∷ bytes → (t ≡ false) × HasNoEnd bytes in
     elim (eqb b 10) as P [ true ↦ λ e. cc | false ↦ λ e. (refl, cc) ]

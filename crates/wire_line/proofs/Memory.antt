@@ -1,29 +1,19 @@
 -- Facts on the sources in memory.
-use Rattle.std.proofs.Common.{◌≡◌, ℕ, ◌+◌, ◌-◌, ◌<◌, ◌≤◌, List, [], ◌++◌, length, take, drop, replicate, refl, sym, ap, ◌∙◌, arith}
+use Rattle.std.proofs.Common.{◌≡◌, ℕ, ◌+◌, List, ◌++◌, length, take, drop, replicate, refl, sym, ◌∙◌}
 use Rattle.std.proofs.Math.Seq.{take-add}
-use Rattle.std.proofs.lemmas.List.{drop-drop, take_at, take-replicate, drop-replicate, replicate-append-replicate, length-replicate}
-use Rattle.wire_line.specs.Telling.{GivesFront}
+use Rattle.std.proofs.lemmas.List.{drop-drop, take_at, take-append-drop, replicate-append-replicate}
 
--- a buffer whose front holds the next n bytes
-pub memory_gives : (bytes front buf came left : List ℕ) (at n : ℕ) → came ≡ take at bytes → left ≡ drop at bytes
-    → n ≤ length (drop at bytes) → length front ≡ n → front ≡ take n (drop at bytes)
-    → (n ≡ 0 → 0 < length (front ++ drop n buf) → drop at bytes ≡ [])
-    → GivesFront n (front ++ drop n buf) came left (take (at + n) bytes) (drop (at + n) bytes)
-memory_gives bytes front buf came left at n was rest there size same ends = record {
-  there = rw rest there;
-  front = rw (take_at front (drop n buf) n size, rest) same;
-  given = rw (was, rest) (take-add at n bytes);
-  remaining = rw rest (sym (drop-drop n at bytes));
-  ended = λ none room. rw rest (ends none room);
-}
+-- the front of a buffer into which the next n bytes were copied
+pub copied_front : (front buf next : List ℕ) (n : ℕ) → length front ≡ n → front ≡ take n next → take n (front ++ drop n buf) ≡ take n next
+copied_front front buf next n size same = take_at front (drop n buf) n size ∙ same
 
-pub same_gives : (buf front : List ℕ) (byte given rest n : ℕ) → n ≤ rest → front ≡ replicate n byte
-    → (n ≡ 0 → 0 < length (front ++ drop n buf) → rest ≡ 0)
-    → GivesFront n (front ++ drop n buf) (replicate given byte) (replicate rest byte) (replicate (given + n) byte) (replicate (rest - n) byte)
-same_gives buf front byte given rest n there same ends = record {
-  there = omega (arith, length-replicate rest byte);
-  front = take_at front (drop n buf) n (ap length same ∙ length-replicate n byte) ∙ same ∙ sym (take-replicate n rest byte there);
-  given = rw (take-replicate n rest byte there) (sym (replicate-append-replicate given n byte));
-  remaining = sym (drop-replicate n rest byte);
-  ended = λ none room. rw (ends none room) refl;
-}
+-- what is left begins with what is given
+pub memory_left : (bytes left given : List ℕ) (at n : ℕ) → left ≡ drop at bytes → given ≡ take n (drop at bytes) → left ≡ given ++ drop (at + n) bytes
+memory_left bytes left given at n rest same =
+    rest ∙ sym (take-append-drop n (drop at bytes)) ∙ rw (same, drop-drop n at bytes) refl
+
+pub memory_came : (bytes came given : List ℕ) (at n : ℕ) → came ≡ take at bytes → given ≡ take n (drop at bytes) → take (at + n) bytes ≡ came ++ given
+memory_came bytes came given at n was same = rw (was, same) (take-add at n bytes)
+
+pub same_came : (given : List ℕ) (byte before n : ℕ) → given ≡ replicate n byte → replicate (before + n) byte ≡ replicate before byte ++ given
+same_came given byte before n same = rw same (sym (replicate-append-replicate before n byte))

@@ -1,15 +1,14 @@
 -- Facts on the part of a buffer that waits: a search in it, and bytes that come behind it.
-use Rattle.std.proofs.Common.{◌≡◌, ℕ, ◌+◌, ◌≤◌, List, [], ◌++◌, length, take, drop, refl, sym, ap, ◌∙◌, arith}
+use Rattle.std.proofs.Common.{◌≡◌, ℕ, ◌+◌, ◌-◌, ◌≤◌, Bool, List, [], ◌++◌, length, take, drop, refl, sym, ap, ◌∙◌, arith, append_assoc}
 use Rattle.std.specs.Prelude.{slice_range}
-use Rattle.std.proofs.lemmas.List.{append_assoc, length-append, length-take-le, take_at, take-append-drop}
-use borrow.Rule.Slice.PartMut.{put_mid}
-use Rattle.wire_line.specs.declared.window.TheConstants.{CAPACITY}
+use Rattle.std.proofs.lemmas.List.{length-append, length-take-le, length-drop, take-take}
+use Rattle.std.proofs.lemmas.Slice.{between_is}
+use Rattle.wire_line.specs.declared.lines.TheConstants.{CAPACITY}
 use Rattle.wire_line.specs.declared.line.TheConstants.{INPUT_LIMIT}
 use Rattle.wire_line.specs.Lines.{first_line, HasNoEnd}
-use Rattle.wire_line.specs.Telling.{GivesFront}
-use Rattle.wire_line.specs.Window.{IsPart, Passes, Grows}
+use Rattle.wire_line.specs.Buffer.{IsPart, Grows}
 use Rattle.wire_line.proofs.FirstLine.{first_line-append, length-first_line, first_line-take, first_line-first_line, no_end_from_length}
-use Rattle.wire_line.proofs.Spans.{range_join, length-range, take-range, range-put_below, range-put, length-put}
+use Rattle.wire_line.proofs.Spans.{range_join, length-range, take-range, drop-range}
 
 -- the place of the first line end, from the place where a search went on
 pub search_place : (buffer : List ℕ) (start searched end taken n : ℕ) → IsPart buffer start searched end taken
@@ -55,47 +54,70 @@ search_none buffer start searched end taken n part found all =
     no_end_from_length (slice_range buffer start end)
     (omega (arith, search_place buffer start searched end taken n part found, length-range buffer start end (omega arith) (omega arith)))
 
+-- the size of what waits
+pub part_length : (buffer : List ℕ) (start searched end taken : ℕ) → IsPart buffer start searched end taken → length (slice_range buffer start end) + start ≡ end
+part_length buffer start searched end taken part = length-range buffer start end (omega arith) (omega arith)
+
+-- A buffer that holds the same before a place has the same parts there.
+range-same : (old new : List ℕ) (at i j : ℕ) → j ≤ at → take at new ≡ take at old → slice_range new i j ≡ slice_range old i j
+range-same old new at i j below same =
+    between_is new i j
+    ∙ ap (drop i) (sym (take-take j at new below) ∙ ap (take j) same ∙ take-take j at old below)
+    ∙ sym (between_is old i j)
+
+pub length-more : (new : List ℕ) (end n : ℕ) → end + n ≤ length new → length (take n (drop end new)) ≡ n
+length-more new end n there = length-take-le n (drop end new) (omega (arith, length-drop end new))
+
 -- n bytes come behind the part
-pub part_put : (buffer ys : List ℕ) (start searched end taken most n end' taken' k : ℕ) → IsPart buffer start searched end taken
-    → end + most ≤ CAPACITY → taken + n ≤ INPUT_LIMIT + 1 → length ys ≡ most → n ≤ most → end' ≡ end + n → taken' ≡ taken + n → k ≡ most
-    → IsPart (put_mid end k buffer ys) start searched end' taken'
-part_put buffer ys start searched end taken most n end' taken' k part room limit size short to now width = record {
-  size = length-put buffer ys end k (omega arith) (omega arith) ∙ part.size;
+pub part_more : (old new : List ℕ) (start searched end taken n end' taken' : ℕ) → IsPart old start searched end taken
+    → length new ≡ length old → take end new ≡ take end old → end' ≡ end + n → taken' ≡ taken + n → end' ≤ CAPACITY → taken' ≤ INPUT_LIMIT + 1
+    → IsPart new start searched end' taken'
+part_more old new start searched end taken n end' taken' part size same to now room limit = record {
+  size = size ∙ part.size;
   from_start = part.from_start;
   to_end = omega arith;
-  inside = omega arith;
+  inside = room;
   counted = omega arith;
-  bounded = omega arith;
-  no_end = rw (range-put_below buffer ys start searched end k part.to_end (omega arith)) part.no_end;
+  bounded = limit;
+  no_end = rw (range-same old new end start searched part.to_end same) part.no_end;
 }
 
-pub waiting_put : (buffer ys : List ℕ) (start searched end taken most n end' k : ℕ) → IsPart buffer start searched end taken
-    → end + most ≤ CAPACITY → length ys ≡ most → n ≤ most → end' ≡ end + n → k ≡ most
-    → slice_range (put_mid end k buffer ys) start end' ≡ slice_range buffer start end ++ take n ys
-waiting_put buffer ys start searched end taken most n end' k part room size short to width =
-    rw to (range-put buffer ys start end k n (omega arith) (omega arith) (omega arith) (omega arith))
+pub waiting_more : (old new : List ℕ) (start searched end taken n end' : ℕ) → IsPart old start searched end taken
+    → take end new ≡ take end old → end' ≡ end + n
+    → slice_range new start end' ≡ slice_range old start end ++ take n (drop end new)
+waiting_more old new start searched end taken n end' part same to =
+    let width : end' - end ≡ n = omega arith in
+    range_join new start end end' (omega arith) (omega arith)
+    ∙ ap (λ (front : List ℕ). front ++ slice_range new end end') (range-same old new end start end (omega arith) same)
+    ∙ ap (λ (k : ℕ). slice_range old start end ++ take k (drop end new)) width
 
-pub grows_put : (waiting ys waiting' buffer buffer' : List ℕ) (taken taken' n : ℕ) → waiting' ≡ waiting ++ take n ys → n ≤ length ys → taken' ≡ taken + n
-    → Grows (record { waiting = waiting; taken = taken; buffer = buffer }) (record { waiting = waiting'; taken = taken'; buffer = buffer' })
-grows_put waiting ys waiting' buffer buffer' taken taken' n more there now = record {
-  front = rw more (take_at waiting (take n ys) (length waiting) refl);
-  count = omega (arith, ap length more, length-append waiting (take n ys), length-take-le n ys there);
-  later = omega arith;
+pub grows_more : (old new : List ℕ) (start searched end taken n end' taken' room room' : ℕ) (passing : Bool) → IsPart old start searched end taken
+    → length new ≡ length old → take end new ≡ take end old → end' ≡ end + n → taken' ≡ taken + n → end' ≤ CAPACITY
+    → Grows (record { waiting = slice_range old start end; taken = taken; buffer = old; passing = passing; room = room })
+    (record { waiting = slice_range new start end'; taken = taken'; buffer = new; passing = passing; room = room' })
+grows_more old new start searched end taken n end' taken' room room' passing part size same to now inside = record {
+  more = take n (drop end new);
+  waiting = waiting_more old new start searched end taken n end' part same to;
+  count = omega (arith, now, length-more new end n (omega (arith, to, inside, size, part.size)));
+  passing = refl;
 }
 
-pub passes_given : (waiting ys waiting' buffer buffer' c l c' l' : List ℕ) (taken taken' n : ℕ) → waiting' ≡ waiting ++ take n ys → taken' ≡ taken + n
-    → GivesFront n ys c l c' l'
-    → Passes [] (record { waiting = waiting; taken = taken; buffer = buffer }) (record { waiting = waiting'; taken = taken'; buffer = buffer' }) c l c' l'
-passes_given waiting ys waiting' buffer buffer' c l c' l' taken taken' n more now gives = record {
-  stream = rw (gives.given, gives.remaining, append_assoc c (take n l) (drop n l), take-append-drop n l) refl;
-  count = omega (arith, ap length gives.given, length-append c (take n l), length-take-le n l gives.there);
-  ahead = rw (more, gives.front, gives.remaining, append_assoc waiting (take n l) (drop n l), take-append-drop n l) refl;
-}
+pub ahead_more : (waiting waiting' given left left' : List ℕ) → waiting' ≡ waiting ++ given → left ≡ given ++ left' → waiting' ++ left' ≡ waiting ++ left
+ahead_more waiting waiting' given left left' more is =
+    ap (λ (front : List ℕ). front ++ left') more ∙ append_assoc waiting given left' ∙ ap (λ (rest : List ℕ). waiting ++ rest) (sym is)
 
-pub passes_kept : (waiting waiting' buffer buffer' c l c' l' : List ℕ) (taken : ℕ) → waiting' ≡ waiting → (c' ≡ c) × (l' ≡ l)
-    → Passes [] (record { waiting = waiting; taken = taken; buffer = buffer }) (record { waiting = waiting'; taken = taken; buffer = buffer' }) c l c' l'
-passes_kept waiting waiting' buffer buffer' c l c' l' taken same kept = record {
-  stream = rw (kept.0, kept.1) refl;
-  count = rw kept.0 refl;
-  ahead = rw (same, kept.1) refl;
-}
+-- the line that waits, and what stands behind its line end
+pub line_text : (buffer : List ℕ) (start end len : ℕ) → len ≡ length (first_line (slice_range buffer start end)) → start + len ≤ end
+    → slice_range buffer start (start + len) ≡ first_line (slice_range buffer start end)
+line_text buffer start end len is inside =
+    sym (take-range buffer len start end inside) ∙ ap (λ (n : ℕ). take n (slice_range buffer start end)) is ∙ first_line-take (slice_range buffer start end)
+
+pub line_rest : (buffer : List ℕ) (start end len : ℕ) → len ≡ length (first_line (slice_range buffer start end)) → start + len + 1 ≤ end
+    → slice_range buffer (start + len + 1) end ≡ drop (length (first_line (slice_range buffer start end)) + 1) (slice_range buffer start end)
+line_rest buffer start end len is inside =
+    let place : start + len + 1 ≡ start + (length (first_line (slice_range buffer start end)) + 1) = omega (arith, is) in
+    ap (λ (at : ℕ). slice_range buffer at end) place
+    ∙ sym (drop-range buffer (length (first_line (slice_range buffer start end)) + 1) start end (omega (arith, is, inside)))
+
+pub range_empty : (buffer : List ℕ) (i : ℕ) → slice_range buffer i i ≡ []
+range_empty buffer i = let none : i - i ≡ 0 = omega arith in rw none refl

@@ -1,5 +1,5 @@
 -- Sources and sinks in memory, as contracts see them.
-use Rattle.std.specs.Prelude.{ℕ, ◌==◌, List, Bool}
+use Rattle.std.specs.Prelude.{ℕ, ◌+◌, ◌-◌, ◌^◌, ◌==◌, min, List, Bool, true, false}
 use Rattle.std.specs.List.{list_any}
 
 -- a source: the bytes that it gave and those that it has left, the most that it gives in a call, the calls that are
@@ -30,3 +30,8 @@ pub record Store : Type 0 where
 -- the call of that number is to fail
 abbrev pub is_listed : List ℕ → ℕ → Bool
 is_listed failing call = list_any (λ n. n == call) failing
+
+-- the count of faults after a call: one more where it failed, as far as 64 bits go
+abbrev pub faults_after : Bool → ℕ → ℕ
+faults_after true faults = min (faults + 1) (2 ^ 64 - 1)
+faults_after false faults = faults

@@ -1,5 +1,5 @@
-ghost use Rattle.std.specs.Prelude.{◌≡◌, ◌+◌, ◌-◌, ◌^◌, min, if◌then◌else◌};
-ghost use Rattle.wire_line.specs.Memory.{is_listed};
+ghost use Rattle.std.specs.Prelude.{◌≡◌, ◌+◌, ◌-◌, ◌^◌, min};
+ghost use Rattle.wire_line.specs.Memory.{faults_after, is_listed};
 
 /// The calls of a source or a sink that are to fail, and how many calls and faults there were.
 #[derive(Drop)]
@@ -15,8 +15,7 @@ impl Calls {
         ensures listed { result ≡ is_listed self.old.failing.items self.old.made }
         ensures failing { self.new.failing ≡ self.old.failing }
         ensures made { self.new.made ≡ min (self.old.made + 1) (2 ^ 64 - 1) }
-        ensures faults { self.new.faults ≡
-            (if result then min (self.old.faults + 1) (2 ^ 64 - 1) else self.old.faults) }
+        ensures faults { self.new.faults ≡ faults_after result self.old.faults }
     {
         let fails = self.failing.contains(&self.made);
         self.made = self.made.saturating_add(1);

@@ -11,7 +11,8 @@ mod reading;
 mod same_bytes;
 mod sink;
 mod source;
-mod window;
+mod stop;
+mod whole;
 mod writing;
 
 pub use failed::Failed;
@@ -21,9 +22,10 @@ pub use memory_sink::MemorySink;
 pub use memory_source::MemorySource;
 pub use reading::Reading;
 pub use same_bytes::SameBytes;
-pub use sink::{Sink, write_whole};
+pub use sink::Sink;
 pub use source::Source;
 use std::alloc::AllocError;
+pub use whole::write_whole;
 pub use writing::Writing;
 
 /// Memory was wanting. No contract says when this answer comes.

@@ -1,6 +1,7 @@
 ghost use Rattle.std.specs.Prelude.{◌≡◌, ◌⊎◌, ◌||◌, ◌&&◌, nat_le, nat_lt, ◌+◌, ◌-◌, ◌^◌, ◌≤◌, ◌<◌, [], Some, length, is_err, false, min, IfOk};
+ghost use Rattle.std.specs.Io.KnownBytes.{WriteAppends};
 ghost use Rattle.wire_line.specs.Failures.{FailsByRise};
-ghost use Rattle.wire_line.specs.Telling.{WhereSinkTells, Takes, IsShare};
+ghost use Rattle.wire_line.specs.Telling.{IsShare};
 ghost use Rattle.wire_line.specs.Memory.{is_listed};
 
 use crate::calls::Calls;
@@ -84,8 +85,7 @@ impl Sink for MemorySink {
 
     fn write(&mut self, bytes: &[u8]) -> Result<usize, Failed>
         ensures bound { IfOk result (λ n. IsShare n bytes.now) }
-        ensures bytes { WhereSinkTells (Some self.old.taken) (Some self.new.taken)
-            (Takes result bytes.now) }
+        ensures bytes { WriteAppends (Some self.old.taken) (Some self.new.taken) result bytes.now }
         ensures cause { FailsByRise self.old.faults self.new.faults result }
         // It fails at the calls of the list, and where there is no room for a piece that isn't empty.
         ensures failing { is_err result ≡

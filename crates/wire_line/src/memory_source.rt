@@ -1,6 +1,7 @@
-ghost use Rattle.std.specs.Prelude.{◌≡◌, ◌+◌, ◌-◌, ◌^◌, ◌≤◌, [], Some, refl, length, is_err, false, min, IfOk};
+ghost use Rattle.std.specs.Prelude.{◌≡◌, ◌+◌, ◌-◌, ◌^◌, ◌≤◌, [], Some, length, is_err, false, min, IfOk};
+ghost use Rattle.std.specs.Io.KnownBytes.{ReadConsumes};
 ghost use Rattle.wire_line.specs.Failures.{FailsByRise};
-ghost use Rattle.wire_line.specs.Telling.{WhereSourceTells, Gives};
+ghost use Rattle.wire_line.specs.Telling.{ReadAdds};
 ghost use Rattle.wire_line.specs.Memory.{is_listed};
 
 use crate::calls::Calls;
@@ -67,13 +68,10 @@ impl Source for MemorySource {
 
     ghost faults = { λ s. s.faults };
 
-    ghost told_together = { λ _. refl };
-
     fn read(&mut self, buf: &mut [u8]) -> Result<usize, Failed>
         ensures bound { IfOk result (λ n. n ≤ length buf.new) }
-        ensures bytes { WhereSourceTells
-            (Some self.old.came) (Some self.old.left) (Some self.new.came) (Some self.new.left)
-            (Gives result buf.new) }
+        ensures left { ReadConsumes (Some self.old.left) (Some self.new.left) result buf.new }
+        ensures came { ReadAdds (Some self.old.came) (Some self.new.came) result buf.new }
         ensures cause { FailsByRise self.old.faults self.new.faults result }
         // It fails exactly at the calls of the list, and its count stays elsewhere.
         ensures failing { is_err result ≡ is_listed self.old.failing self.old.calls }

@@ -1,10 +1,10 @@
-ghost use Rattle.std.specs.Prelude.{◌≡◌, None, refl};
+ghost use Rattle.std.specs.Prelude.{◌≡◌, None};
 
 use crate::{Failed, Source};
 use std::io::Read;
 
-/// A reader of the standard library as a source. It counts a fault at each error, up to 2^64 - 1, and tells nothing
-/// of its bytes.
+/// A reader of the standard library as a source. It counts a fault at each error, up to 2^64 - 1. It tells what is left
+/// where the reader tells what remains. What came it doesn't tell, since it keeps no byte.
 #[derive(Drop)]
 pub struct Reading<R: Read> {
     inner: R,
@@ -13,7 +13,8 @@ pub struct Reading<R: Read> {
 
 impl<R: Read> Reading<R> {
     pub fn new(inner: R) -> Reading<R>
-        ensures { ⟦<Reading<R> as Source>⟧.faults result ≡ 0 }
+        ensures left { ⟦<Reading<R> as Source>⟧.left result ≡ R.remaining inner }
+        ensures faults { ⟦<Reading<R> as Source>⟧.faults result ≡ 0 }
     {
         Reading { inner, faults: 0 }
     }
@@ -22,11 +23,9 @@ impl<R: Read> Reading<R> {
 impl<R: Read> Source for Reading<R> {
     ghost came = { λ _. None };
 
-    ghost left = { λ _. None };
+    ghost left = { λ r. R.remaining r.inner };
 
     ghost faults = { λ r. r.faults };
-
-    ghost told_together = { λ _. refl };
 
     fn read(&mut self, buf: &mut [u8]) -> Result<usize, Failed> {
         match self.inner.read(buf) {

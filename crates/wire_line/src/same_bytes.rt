@@ -1,4 +1,4 @@
-ghost use Rattle.std.specs.Prelude.{◌≡◌, Some, refl, replicate};
+ghost use Rattle.std.specs.Prelude.{◌≡◌, Some, replicate};
 
 use crate::{Failed, Source};
 use std::marker::Model;
@@ -41,8 +41,6 @@ impl Source for SameBytes {
     ghost left = { λ s. Some (replicate s.rest s.byte) };
 
     ghost faults = { λ _. 0 };
-
-    ghost told_together = { λ _. refl };
 
     fn read(&mut self, buf: &mut [u8]) -> Result<usize, Failed> {
         let room = buf.len() as u64;

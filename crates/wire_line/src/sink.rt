@@ -1,6 +1,8 @@
-ghost use Rattle.std.specs.Prelude.{◌≡◌, ◌≤◌, ℕ, List, Option, IfOk};
+ghost use Rattle.std.specs.Prelude.{ℕ, List, Option, Result, IfOk};
+ghost use Rattle.std.specs.Io.KnownBytes.{WriteAppends};
+ghost use Rattle.wire_line.specs.declared.failed.Failed.{Failed};
 ghost use Rattle.wire_line.specs.Failures.{FailsByRise};
-ghost use Rattle.wire_line.specs.Telling.{WhereSinkTells, Takes, TakesText, IsShare};
+ghost use Rattle.wire_line.specs.Telling.{IsShare};
 
 use crate::Failed;
 
@@ -12,21 +14,14 @@ pub trait Sink {
     /// How often it has failed.
     ghost faults: { Self → ℕ };
 
-    /// Takes bytes from the front of a piece, and answers how many: at least one of a piece that isn't empty.
+    /// One call: the sink before it, the piece that was offered, the answer, and the sink after it.
+    ghost writes: { Self → List ℕ → Result ℕ Failed → Self → Type 0 } = { λ _ _ _ _. Unit {0} };
+
+    /// Takes bytes from the front of a piece, and answers how many: at least one of a piece that isn't empty. A failure
+    /// takes none.
     fn write(&mut self, bytes: &[u8]) -> Result<usize, Failed>
         ensures bound { IfOk result (λ n. IsShare n bytes.now) }
-        ensures bytes { WhereSinkTells (taken self.old) (taken self.new) (Takes result bytes.now) }
-        ensures cause { FailsByRise (faults self.old) (faults self.new) result };
-}
-
-/// Offers a text to a sink, and its rest again, until all of it is taken or a write fails.
-pub fn write_whole<O: Sink>(output: &mut O, text: &[u8]) -> Result<(), Failed>
-    ensures bytes { WhereSinkTells (O.taken output.old) (O.taken output.new) (TakesText result text.now) }
-    ensures cause { FailsByRise (O.faults output.old) (O.faults output.new) result }
-{
-    let mut done = 0;
-    while done < text.len() {
-        done += output.write(&text[done..])?;
-    }
-    Ok(())
+        ensures bytes { WriteAppends (taken self.old) (taken self.new) result bytes.now }
+        ensures cause { FailsByRise (faults self.old) (faults self.new) result }
+        ensures call { writes self.old bytes.now result self.new };
 }

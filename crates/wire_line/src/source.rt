@@ -1,6 +1,7 @@
-ghost use Rattle.std.specs.Prelude.{◌≡◌, ◌≤◌, ℕ, List, Option, length, is_some, IfOk};
+ghost use Rattle.std.specs.Prelude.{◌≤◌, ℕ, List, Option, length, IfOk};
+ghost use Rattle.std.specs.Io.KnownBytes.{ReadConsumes};
 ghost use Rattle.wire_line.specs.Failures.{FailsByRise};
-ghost use Rattle.wire_line.specs.Telling.{WhereSourceTells, Gives};
+ghost use Rattle.wire_line.specs.Telling.{ReadAdds};
 
 use crate::Failed;
 
@@ -16,14 +17,10 @@ pub trait Source {
     ghost faults: { Self → ℕ };
 
     /// Puts the next bytes at the front of `buf`, and answers how many. What stands behind them in `buf` isn't said.
-    /// At 0, for a buffer that isn't empty, the bytes are at their end.
+    /// At 0, for a buffer that isn't empty, the bytes are at their end. A failure takes no byte.
     fn read(&mut self, buf: &mut [u8]) -> Result<usize, Failed>
         ensures bound { IfOk result (λ n. n ≤ length buf.new) }
-        ensures bytes { WhereSourceTells
-            (came self.old) (left self.old) (came self.new) (left self.new)
-            (Gives result buf.new) }
+        ensures left { ReadConsumes (left self.old) (left self.new) result buf.new }
+        ensures came { ReadAdds (came self.old) (came self.new) result buf.new }
         ensures cause { FailsByRise (faults self.old) (faults self.new) result };
-
-    /// It tells both or neither.
-    ghost told_together: { (source : Self) → is_some (left source) ≡ is_some (came source) };
 }

@@ -2,7 +2,7 @@ use crate::{Line, Lines, MemorySink, MemorySource, Reading, Source, Writing, wri
 use std::alloc::{AllocError, Global};
 use std::test::Fail;
 
-// Each answer as a word, and each line's text before a bar, up to the first answer that isn't a line.
+// Each answer as a word, and each line's text, with a bar behind, up to the end or the limit. Behind a fault it goes on.
 fn answers<I: Source>(alloc: Global, input: &mut I) -> Result<Vec<u8>, AllocError> {
     let mut lines = Lines::new(alloc)?;
     let mut said = Vec::new(alloc);
@@ -21,10 +21,7 @@ fn answers<I: Source>(alloc: Global, input: &mut I) -> Result<Vec<u8>, AllocErro
                 said.extend_from_slice(b"limit")?;
                 return Ok(said);
             }
-            Line::Fault => {
-                said.extend_from_slice(b"fault")?;
-                return Ok(said);
-            }
+            Line::Fault => said.extend_from_slice(b"fault|")?,
         }
     }
     Ok(said)
@@ -72,13 +69,13 @@ const CASES: [Case; 7] = [
         input: b"one\ntwo\n",
         piece: 5,
         failing: Some(1),
-        want: b"one|fault",
+        want: b"one|fault|two|end",
     },
     Case {
         input: b"one\ntwo\n",
         piece: 9,
         failing: Some(0),
-        want: b"fault",
+        want: b"fault|one|two|end",
     },
 ];
 

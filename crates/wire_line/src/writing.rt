@@ -1,10 +1,10 @@
-ghost use Rattle.std.specs.Prelude.{◌≡◌, None};
+ghost use Rattle.std.specs.Prelude.{◌≡◌};
 
 use crate::{Failed, Sink};
 use std::io::Write;
 
 /// A writer of the standard library as a sink. It counts a fault at each error, and where nothing is taken of a piece
-/// that isn't empty, up to 2^64 - 1. It tells nothing of its bytes.
+/// that isn't empty, up to 2^64 - 1. It tells what it took where the writer tells its contents.
 #[derive(Drop)]
 pub struct Writing<W: Write> {
     inner: W,
@@ -13,14 +13,15 @@ pub struct Writing<W: Write> {
 
 impl<W: Write> Writing<W> {
     pub fn new(inner: W) -> Writing<W>
-        ensures { ⟦<Writing<W> as Sink>⟧.faults result ≡ 0 }
+        ensures taken { ⟦<Writing<W> as Sink>⟧.taken result ≡ W.contents inner }
+        ensures faults { ⟦<Writing<W> as Sink>⟧.faults result ≡ 0 }
     {
         Writing { inner, faults: 0 }
     }
 }
 
 impl<W: Write> Sink for Writing<W> {
-    ghost taken = { λ _. None };
+    ghost taken = { λ w. W.contents w.inner };
 
     ghost faults = { λ w. w.faults };
 
