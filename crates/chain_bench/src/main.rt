@@ -4,7 +4,6 @@
 
 ghost use Rattle.std.specs.Prelude.{◌<◌, ◌≤◌};
 
-mod counter;
 mod rounds;
 
 use rounds::{build, commit_each, cut_each, push_and_pop, read_newest_commit, read_version};

@@ -3,7 +3,7 @@ ghost use Rattle.graph_value.specs.Id.{oid_text};
 ghost use Rattle.graph_shell.specs.Reply.{IsAnswerTo, IsVersionOf, answer_text, bad_line, refused_text, reply_text, rival_text, version_text, wrote_text};
 
 use crate::NoMemory;
-use graph_record::{Object, object_json};
+use graph_record::{Object, push_object_json};
 use graph_value::Oid;
 use std::alloc::Global;
 use std::fmt::Write;
@@ -66,10 +66,7 @@ fn push_version(
 {
     match (asked, object) {
         (_, Object::Dead) => out.push_str("dead"),
-        (Some(x), object) => {
-            let text = object_json(alloc, x, object)?;
-            out.push_str(text.as_str())
-        }
+        (Some(x), object) => push_object_json(alloc, out, x, object),
         (None, _) => unreachable!(),
     }
 }

@@ -7,9 +7,11 @@
 //! - `Steps` counts the deltas that were applied through it: each application adds one, a refused one none.
 //! - `Dated` is a delta with the timestamp of its commit, `DatedDeltas` a list of them, and `Tail` an object with the
 //!   older deltas that lead back from it.
+//! - `Digits` is the smallest kind of object, for tests and measurements.
 #![tactic(auto)]
 
 mod dated;
+mod digits;
 mod steps;
 mod tail;
 #[cfg(test)]
@@ -17,6 +19,7 @@ mod tests;
 mod undo;
 
 pub use dated::{Dated, DatedDeltas};
+pub use digits::Digits;
 use std::alloc::AllocError;
 pub use steps::Steps;
 pub use tail::Tail;

@@ -1,44 +1,10 @@
-ghost use Rattle.std.specs.Prelude.{◌≡◌, ◌+◌, ◌<◌, IfOk, min, nat_eq};
+ghost use Rattle.std.specs.Prelude.{◌≡◌, ◌<◌, IfOk};
 
-use crate::{Dated, DatedDeltas, NoMemory, Steps, Tail, Undo};
+use crate::{Dated, DatedDeltas, Digits, NoMemory, Steps, Tail, Undo};
 use std::alloc::Global;
 use std::marker::Brand;
 use std::sync::ledger::{Blank, Ledger};
 use std::test::Fail;
-
-/// A counter that stops at its type's end; a delta adds a number to it.
-struct Counting;
-
-impl Undo for Counting {
-    type Object = u64;
-
-    type Delta = u64;
-
-    ghost after = { λ count step. min (count + step) 18446744073709551615 };
-
-    ghost is_absent = { λ count. nat_eq count 0 };
-
-    fn apply(_alloc: Global, object: &mut u64, delta: &u64) -> Result<(), NoMemory> {
-        *object = object.saturating_add(*delta);
-        Ok(())
-    }
-
-    fn copy_object(_alloc: Global, object: &u64) -> Result<u64, NoMemory> {
-        Ok(*object)
-    }
-
-    fn copy_delta(_alloc: Global, delta: &u64) -> Result<u64, NoMemory> {
-        Ok(*delta)
-    }
-
-    fn absent(object: &u64) -> bool {
-        *object == 0
-    }
-
-    fn same_object(a: &u64, b: &u64) -> bool {
-        *a == *b
-    }
-}
 
 /// Each function of the trait once, through its bound.
 fn undo_twice<U: Undo>(
@@ -61,19 +27,24 @@ fn is_changed<U: Undo>(a: &U::Object, b: &U::Object) -> bool {
 
 #[test]
 fn deltas_are_applied_through_the_bound(rt: HostRuntime) -> Result<(), Fail> {
-    let rows = [(0, 0, 0), (1, 2, 5), (7, 0, 7), (u64::MAX, 1, u64::MAX)];
-    for (newest, step, wanted) in rows {
-        let object = undo_twice::<Counting>(rt.alloc(), &newest, &step)?;
+    let rows = [
+        (0, 0, 0),
+        (1, 2, 122),
+        (7, 0, 700),
+        (u64::MAX, 1, u64::MAX - 88),
+    ];
+    for (newest, digit, wanted) in rows {
+        let object = undo_twice::<Digits>(rt.alloc(), &newest, &digit)?;
         assert_eq!(rt; object, wanted);
     }
-    assert!(rt; is_changed::<Counting>(&1, &2));
-    assert!(rt; !is_changed::<Counting>(&2, &2));
-    assert!(rt; !is_changed::<Counting>(&0, &2));
+    assert!(rt; is_changed::<Digits>(&1, &2));
+    assert!(rt; !is_changed::<Digits>(&2, &2));
+    assert!(rt; !is_changed::<Digits>(&0, &2));
     Ok(())
 }
 
 /// Undoes a tail, each delta through the count, and counts one step more.
-fn rebuild<L: Ledger>(alloc: Global, blank: Blank, tail: Tail<Counting>) -> Result<u64, NoMemory>
+fn rebuild<L: Ledger>(alloc: Global, blank: Blank, tail: Tail<Digits>) -> Result<u64, NoMemory>
     requires name { blank.name ≡ L.name }
     requires parts { blank.parts ≡ L.parts }
     requires some { 0 < L.parts }
@@ -82,7 +53,7 @@ fn rebuild<L: Ledger>(alloc: Global, blank: Blank, tail: Tail<Counting>) -> Resu
     let Tail { newest, deltas } = tail;
     let mut object = newest;
     for dated in deltas.as_slice() {
-        steps.apply::<Counting>(alloc, &mut object, &dated.delta)?;
+        steps.apply::<Digits>(alloc, &mut object, &dated.delta)?;
     }
     steps.tick();
     Ok(object)
@@ -96,6 +67,6 @@ fn a_tail_is_undone(rt: HostRuntime) -> Result<(), Fail> {
     assert_eq!(rt; deltas.len(), 2);
     let deltas = DatedDeltas::from_vec(deltas.into_vec());
     let object = rebuild::<Brand>(rt.alloc(), Blank::new(1), Tail { newest: 1, deltas })?;
-    assert_eq!(rt; object, 7);
+    assert_eq!(rt; object, 124);
     Ok(())
 }
