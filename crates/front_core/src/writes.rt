@@ -1,5 +1,5 @@
-ghost use Rattle.std.specs.Prelude.{◌≡◌, ◌≢◌, ◌==◌, ◌++◌, ◌∷◌, [], ℕ, OnOk, OnErr, nat_eq, if◌then◌else◌, position};
-ghost use Rattle.front_core.specs.Writes.{vertices_of};
+ghost use Rattle.std.specs.Prelude.{◌≡◌, ◌≢◌, ◌==◌, [], ℕ, OnOk, OnErr, position};
+ghost use Rattle.front_core.specs.Writes.{vertices_of, written_also, written_without};
 
 use crate::NoMemory;
 use sqlite_items::Items;
@@ -42,7 +42,7 @@ impl Writes {
 
     /// Adds a vertex to those that the caller has written. Where memory is wanting nothing changes.
     pub fn add(&mut self, alloc: Global, caller: u64, vertex: u64) -> Result<(), NoMemory>
-        ensures ok { OnOk result ((d : ℕ) → vertices_of self.new d ≡ (if nat_eq caller d then vertices_of self.old d ++ vertex ∷ [] else vertices_of self.old d)) }
+        ensures ok { OnOk result ((d : ℕ) → vertices_of self.new d ≡ written_also self.old caller vertex d) }
         ensures err { OnErr result (self.new ≡ self.old) }
     {
         match place_of(&self.callers, caller) {
@@ -58,7 +58,7 @@ impl Writes {
     /// Takes out what the caller has written.
     pub fn take(&mut self, alloc: Global, caller: u64) -> Items<u64>
         ensures value { result ≡ vertices_of self.old caller }
-        ensures others { (d : ℕ) → vertices_of self.new d ≡ (if nat_eq caller d then [] else vertices_of self.old d) }
+        ensures others { (d : ℕ) → vertices_of self.new d ≡ written_without self.old caller d }
     {
         match place_of(&self.callers, caller) {
             Some(place) => self.callers.remove(place).vertices,

@@ -1,4 +1,4 @@
-ghost use Rattle.std.specs.Prelude.{◌≡◌, ◌∷◌, ◌++◌, ◌+◌, ◌<◌, [], ℕ, Some, IfOk, IfSome, OnOk, OnErr, IsTrue, IsNone, IsSome, length, nat_eq, is_some, unwrap_or, if◌then◌else◌, option_map};
+ghost use Rattle.std.specs.Prelude.{◌≡◌, ◌∷◌, ◌++◌, ◌+◌, ◌<◌, [], ℕ, Some, IfOk, IfSome, OnOk, OnErr, IsTrue, IsNone, IsSome, length, unwrap_or, option_map};
 ghost use Rattle.std.specs.Option.{option_copied};
 ghost use Rattle.graph_value.specs.declared.id.Oid.TheVariants as oid;
 ghost use Rattle.graph_record.specs.Record.{empty_vertex};
@@ -6,11 +6,11 @@ ghost use Rattle.graph_value.specs.Value.{same_value};
 ghost use Rattle.undo_delta.specs.Apply.{with_property};
 ghost use Rattle.undo_delta.specs.Change.{value_at, value_or_null, kept};
 ghost use Rattle.front_core.specs.Versions.{no_versions, seen_object, is_draft_of};
-ghost use Rattle.front_core.specs.Writes.{vertices_of};
+ghost use Rattle.front_core.specs.Writes.{vertices_of, written_also};
 ghost use Rattle.txn_manager.specs.RunningList.{start_of};
 ghost use Rattle.graph_record.specs.Graph.{is_dead};
 ghost use Rattle.front_core.specs.Decision.{row_rival, set_decision, other_start_of, IsFree};
-ghost use Rattle.front_core.specs.Drafted.{drafted};
+ghost use Rattle.front_core.specs.Drafted.{drafted, written_once};
 ghost use Rattle.front_core.specs.Keeps.{row_at};
 ghost use Rattle.front_core.specs.Obeys.{ObeysAll};
 
@@ -213,7 +213,7 @@ fn draft_new(
     vertex: u64,
 ) -> Result<(), NoMemory>
     ensures row { OnOk result (rows.new.items ≡ rows.old.items ++ drafted no_versions caller (Object.Vertex empty_vertex) ∷ []) }
-    ensures listed { OnOk result ((d : ℕ) → vertices_of writes.new d ≡ (if nat_eq caller d then vertices_of writes.old d ++ vertex ∷ [] else vertices_of writes.old d)) }
+    ensures listed { OnOk result ((d : ℕ) → vertices_of writes.new d ≡ written_also writes.old caller vertex d) }
     ensures rows_stay { OnErr result (rows.new.items ≡ rows.old.items) }
     ensures writes_stay { OnErr result (writes.new ≡ writes.old) }
 {
@@ -240,7 +240,7 @@ fn draft_set(
 ) -> Result<(), NoMemory>
     requires { IsFree caller row.old.draft }
     ensures row { OnOk result (row.new ≡ drafted row.old caller (with_property name value (seen_object caller start row.old))) }
-    ensures listed { OnOk result ((d : ℕ) → vertices_of writes.new d ≡ (if is_some row.old.draft then vertices_of writes.old d else (if nat_eq caller d then vertices_of writes.old d ++ vertex ∷ [] else vertices_of writes.old d))) }
+    ensures listed { OnOk result ((d : ℕ) → vertices_of writes.new d ≡ written_once row.old.draft writes.old caller vertex d) }
     ensures row_stays { OnErr result (row.new ≡ row.old) }
     ensures writes_stay { OnErr result (writes.new ≡ writes.old) }
 {

@@ -9,7 +9,8 @@ use Rattle.front_core.specs.Keeps.{Kept, StandsFor, first_start}
 use Rattle.graph_shell.specs.declared.request.Request.{Request}
 use Rattle.graph_shell.specs.Request.{request_of, is_skipped}
 use Rattle.graph_shell.specs.Reply.{reply_text}
-use Rattle.graph_shell.specs.Events.{Answered, AnswersLine, answer_short, answer_request, answer_to, asked_by, entry_of}
+use Rattle.graph_shell.specs.Events.{Answered, AnswersLine, answer_short, answer_request, answer_to, entry_of}
+use Rattle.world_model.specs.Replies.{asked_by}
 
 abbrev now : List Entry → World
 now es = run (start_world first_start) es

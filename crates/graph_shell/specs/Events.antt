@@ -1,11 +1,9 @@
 -- The text that an event list is answered with.
 use Rattle.std.specs.Prelude.{◌≡◌, ℕ, List, [], ◌∷◌, ◌++◌, Option, Some, None, Bool, false, ◌&&◌, length, nat_lt, if◌then◌else◌}
-use Rattle.graph_value.specs.declared.id.Oid.{Oid}
-use Rattle.world_model.specs.declared.event.Event.{Event}
-use Rattle.world_model.specs.declared.event.Event.TheVariants.{Begin, Read, Write, Commit}
 use Rattle.world_model.specs.declared.answer.Answer.{Answer}
 use Rattle.world_model.specs.World.{World, start_world}
 use Rattle.world_model.specs.Step.{step}
+use Rattle.world_model.specs.Replies.{asked_by}
 use Rattle.world_model.specs.History.{Entry, may_want, no_memory, world_after, run}
 use Rattle.front_core.specs.Keeps.{Kept, StandsFor, first_start}
 use Rattle.wire_line.specs.declared.line.TheConstants.{LINE_LIMIT}
@@ -13,13 +11,6 @@ use Rattle.wire_line.specs.Lines.{lines_of, without_return}
 use Rattle.graph_shell.specs.declared.request.Request.{Request}
 use Rattle.graph_shell.specs.Request.{request_of, is_skipped}
 use Rattle.graph_shell.specs.Reply.{reply_text, bad_line}
-
--- the object that an event reads
-abbrev pub asked_by : Event → Option Oid
-asked_by Begin = None
-asked_by (Read x when) = Some x
-asked_by (Write ask) = None
-asked_by Commit = None
 
 -- what is written for a line, and the world after it
 pub record Answered : Type 0 where

@@ -6,7 +6,7 @@ use Rattle.graph_value.specs.declared.id.Oid.{Oid}
 use Rattle.graph_value.specs.declared.id.Oid.TheVariants as oid
 use Rattle.graph_record.specs.declared.object.Object.{Object}
 use Rattle.graph_record.specs.declared.object.Object.TheVariants.{Dead}
-use Rattle.graph_record.specs.Json.{IsOfKind, object_text}
+use Rattle.graph_record.specs.Json.{object_text}
 use Rattle.txn_manager.specs.declared.rivals.Rival.{Rival}
 use Rattle.txn_manager.specs.declared.rivals.Rival.TheVariants as rival
 use Rattle.world_model.specs.declared.answer.Wrote.{Wrote}
@@ -49,16 +49,6 @@ answer_text asked (answer.Version object) = version_text asked object
 answer_text asked (answer.Wrote what) = wrote_text what
 answer_text asked (answer.Committed ts) = codes "commit " ++ decimal ts
 answer_text asked (answer.Refused why) = refused_text why
-
--- a version that is there belongs to the id that was asked for
-abbrev pub IsVersionOf : Option Oid → Object → Type 0
-IsVersionOf asked Dead = Unit {0}
-IsVersionOf None object = ⊥
-IsVersionOf (Some x) object = IsOfKind x object
-
-abbrev pub IsAnswerTo : Option Oid → Answer → Type 0
-IsAnswerTo asked (answer.Version object) = IsVersionOf asked object
-IsAnswerTo asked answer = Unit {0}
 
 abbrev pub line_end : List ℕ
 line_end = 10 ∷ []

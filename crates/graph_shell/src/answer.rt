@@ -1,7 +1,8 @@
 ghost use Rattle.std.specs.Prelude.{◌≡◌, ◌<◌, [], ℕ, List, OnOk, string_bytes};
 ghost use Rattle.world_model.specs.History.{Entry};
 ghost use Rattle.front_core.specs.Keeps.{StandsFor, first_start};
-ghost use Rattle.graph_shell.specs.Events.{asked_by, answer_short, AnswersLine};
+ghost use Rattle.world_model.specs.Replies.{asked_by};
+ghost use Rattle.graph_shell.specs.Events.{answer_short, AnswersLine};
 
 use crate::NoMemory;
 use crate::reply::{push_bad_line, push_reply};

@@ -1,6 +1,7 @@
 ghost use Rattle.std.specs.Prelude.{◌≡◌, ◌++◌, OnOk, string_bytes};
 ghost use Rattle.graph_value.specs.Id.{oid_text};
-ghost use Rattle.graph_shell.specs.Reply.{IsAnswerTo, IsVersionOf, answer_text, bad_line, refused_text, reply_text, rival_text, version_text, wrote_text};
+ghost use Rattle.world_model.specs.Replies.{IsAnswerTo, IsVersionOf};
+ghost use Rattle.graph_shell.specs.Reply.{answer_text, bad_line, refused_text, reply_text, rival_text, version_text, wrote_text};
 
 use crate::NoMemory;
 use graph_record::{Object, push_object_json};

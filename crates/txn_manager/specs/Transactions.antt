@@ -1,5 +1,5 @@
 -- The clock and the open transactions.
-use Rattle.std.specs.Prelude.{◌≢◌, ℕ, ◌+◌, ◌<◌, ◌≤◌, min, Option, Some, None, is_some, List, [], ◌∷◌, ◌++◌, length, fold, All, AllPairs, nat_lt, nat_le, if◌then◌else◌}
+use Rattle.std.specs.Prelude.{◌≢◌, ℕ, Bool, ◌+◌, ◌<◌, ◌≤◌, min, Option, Some, None, is_some, List, [], ◌∷◌, ◌++◌, length, fold, All, AllPairs, nat_lt, nat_le, if◌then◌else◌}
 use Rattle.txn_manager.specs.RunningList.{start_of}
 use Rattle.txn_manager.specs.declared.TheConstants.{CLOCK_END, MOST_OPEN}
 use Rattle.txn_manager.specs.declared.running.Running.{Running}
@@ -34,6 +34,10 @@ begin_refusal s caller =
 abbrev pub begun : Transactions → ℕ → Transactions
 begun s caller =
     record { clock = s.clock + 1; running = s.running ++ record { caller = caller; start = s.clock } ∷ [] }
+
+-- the clock after a transaction ended: it rises where something was written
+abbrev pub clock_after_end : Bool → ℕ → ℕ
+clock_after_end wrote clock = if wrote then clock + 1 else clock
 
 -- the least start of the list, or the clock where it is empty
 abbrev pub least_start : ℕ → List Running → ℕ

@@ -1,6 +1,6 @@
-ghost use Rattle.std.specs.Prelude.{◌≡◌, ◌≤◌, ◌+◌, ◌⊎◌, [], length, IsTrue, IsFalse, IsSome, IfSome, IfOk, IfErr, OnOk, OnErr, if◌then◌else◌};
+ghost use Rattle.std.specs.Prelude.{◌≡◌, ◌≤◌, ◌+◌, ◌⊎◌, [], length, IsTrue, IsFalse, IsSome, IfSome, IfOk, IfErr, OnOk, OnErr};
 ghost use Rattle.txn_manager.specs.RunningList.{start_of, without};
-ghost use Rattle.txn_manager.specs.Transactions.{IsReady, begin_refusal, begun, mark_of};
+ghost use Rattle.txn_manager.specs.Transactions.{IsReady, begin_refusal, begun, clock_after_end, mark_of};
 
 use crate::running::{place_of, take_out};
 use crate::{BeginRefused, CLOCK_END, MOST_OPEN, Running};
@@ -70,7 +70,7 @@ impl Active {
         requires { IsSome (start_of self.old.running caller) }
         ensures written { IsTrue wrote → result ≡ self.old.clock }
         ensures read { IsFalse wrote → start_of self.old.running caller ≡ Some result }
-        ensures clock { self.new.clock ≡ (if wrote then self.old.clock + 1 else self.old.clock) }
+        ensures clock { self.new.clock ≡ clock_after_end wrote self.old.clock }
         ensures others { self.new.running ≡ without caller self.old.running }
         ensures ready { IsReady self.new }
     {

@@ -1,4 +1,4 @@
-ghost use Rattle.graph_shell.specs.Reply.{IsAnswerTo};
+ghost use Rattle.world_model.specs.Replies.{IsAnswerTo};
 
 use super::*;
 use graph_record::VertexRecord;
