@@ -1,13 +1,13 @@
 -- The first elements of a list, and the element at its end.
-use Rattle.std.proofs.Common.{◌≡◌, ℕ, zero, suc, ◌+◌, ◌-◌, ◌<◌, ◌≤◌, List, [], ◌∷◌, ◌++◌, Option, Some, None, Bool, true, false, ◌&&◌, length, take, get_or, Ordering, Less, Equal, Greater, IsTrue, refl, sym, ap, ◌∙◌, arith, rules}
+use Rattle.std.proofs.Common.{◌≡◌, ℕ, zero, suc, ◌-◌, ◌≤◌, List, [], ◌∷◌, ◌++◌, Some, None, Bool, true, false, ◌&&◌, length, take, Greater, IsTrue, refl, sym, ap, ◌∙◌, arith, rules}
 use Rattle.std.specs.Prelude.{slice_get, nat_lt}
-use Rattle.std.specs.List.{list_all, insert}
+use Rattle.std.specs.List.{list_all}
 use Rattle.std.specs.Ordering.{nat_cmp, is_lt}
 use Rattle.std.proofs.lemmas.Bool.{and_parts}
 use Rattle.std.proofs.lemmas.Bool.Decides.{nat_tests}
 use Rattle.std.proofs.lemmas.List.{take_all, length-take-le, length-append}
 use Rattle.graph_value.specs.declared.id.EdgeId.{EdgeId}
-use Rattle.graph_record.specs.Ascending.{is_ascending, edge_cmp, IsAscendingIds}
+use Rattle.graph_record.specs.Ascending.{edge_cmp, IsAscendingIds}
 use Rattle.graph_record.specs.Edits.{added, is_below}
 use Rattle.graph_record.proofs.Place.{both}
 

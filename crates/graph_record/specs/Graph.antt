@@ -44,28 +44,31 @@ is_dead Dead = true
 is_dead (Vertex r) = false
 is_dead (Edge r) = false
 
--- whether a vertex lists the edge among those that leave it
+-- whether a vertex has the edge in this list of its record
+abbrev pub is_listed : (VertexRecord → List EdgeId) → EdgeId → Object → Bool
+is_listed list e Dead = false
+is_listed list e (Vertex r) = list_any (λ f. nat_eq f.0 e.0) (list r)
+is_listed list e (Edge r) = false
+
+-- whether an edge has the vertex at this end of its record
+abbrev pub is_named : (EdgeRecord → VertexId) → VertexId → Object → Bool
+is_named end v Dead = false
+is_named end v (Vertex r) = false
+is_named end v (Edge r) = nat_eq (end r).0 v.0
+
+-- whether a vertex lists the edge among those that leave it, and among those that come to it
 abbrev pub has_out : EdgeId → Object → Bool
-has_out e Dead = false
-has_out e (Vertex r) = list_any (λ f. nat_eq f.0 e.0) r.outs
-has_out e (Edge r) = false
+has_out e o = is_listed (λ r. r.outs) e o
 
--- and among those that come to it
 abbrev pub has_in : EdgeId → Object → Bool
-has_in e Dead = false
-has_in e (Vertex r) = list_any (λ f. nat_eq f.0 e.0) r.ins
-has_in e (Edge r) = false
+has_in e o = is_listed (λ r. r.ins) e o
 
--- whether an edge comes from the vertex
+-- whether an edge comes from the vertex, and whether it goes to it
 abbrev pub comes_from : VertexId → Object → Bool
-comes_from v Dead = false
-comes_from v (Vertex r) = false
-comes_from v (Edge r) = nat_eq r.from.0 v.0
+comes_from v o = is_named (λ r. r.from) v o
 
 abbrev pub goes_to : VertexId → Object → Bool
-goes_to v Dead = false
-goes_to v (Vertex r) = false
-goes_to v (Edge r) = nat_eq r.to.0 v.0
+goes_to v o = is_named (λ r. r.to) v o
 
 -- Vertices and edges tell the same: an edge comes from a vertex exactly where that lists it, and goes to one likewise.
 pub record IsCoherent (g : Graph) : Type 0 where

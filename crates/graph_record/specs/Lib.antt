@@ -3,6 +3,7 @@ pub mod Edits
 pub mod Place
 pub mod Json
 pub mod Record
+pub mod Form
 pub mod Stored
 pub mod Graph
 pub mod Shared

@@ -1,4 +1,5 @@
 ghost use Rattle.std.specs.Prelude.{◌≡◌, IfOk};
+ghost use Rattle.graph_record.specs.Form.{IsForm};
 ghost use Rattle.graph_record.specs.Record.{empty_vertex};
 
 use crate::{EdgeIds, Kind, Labels, NoMemory, Properties};
@@ -84,6 +85,25 @@ impl Object {
             Object::Dead => Ok(Object::Dead),
             Object::Vertex(vertex) => Ok(Object::Vertex(vertex.copy()?)),
             Object::Edge(edge) => Ok(Object::Edge(edge.copy()?)),
+        }
+    }
+
+    /// The form that each object has, for proofs: its lists in order, and storable values alone. It reads a few
+    /// lengths, and nothing comes of them.
+    pub fn form(&self)
+        ensures { IsForm self.now }
+    {
+        match self {
+            Object::Dead => {}
+            Object::Vertex(vertex) => {
+                vertex.labels.len();
+                vertex.props.as_slice();
+                vertex.outs.len();
+                vertex.ins.len();
+            }
+            Object::Edge(edge) => {
+                edge.props.as_slice();
+            }
         }
     }
 }

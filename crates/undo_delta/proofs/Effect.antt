@@ -17,7 +17,7 @@ use Rattle.graph_record.specs.declared.object.Object.{Object}
 use Rattle.graph_record.specs.declared.object.Object.TheVariants.{Dead, Vertex, Edge}
 use Rattle.graph_record.proofs.Edges.{edge_cmp_total}
 use Rattle.undo_delta.specs.Change.{no_delta, one_delta, undone_by, is_possible, changed, deltas_of, linked, unlinked, end_deltas}
-use Rattle.undo_delta.specs.Form.{IsForm}
+use Rattle.graph_record.specs.Form.{IsForm}
 use Rattle.undo_delta.specs.Touch.{is_touched, ends, same_oid}
 use Rattle.undo_delta.specs.declared.delta.Delta.{Delta}
 use Rattle.undo_delta.specs.declared.delta.DeltaPair.{DeltaPair}

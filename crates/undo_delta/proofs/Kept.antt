@@ -12,7 +12,7 @@ use Rattle.graph_record.proofs.Place.{added_ascends, removed_ascends}
 use Rattle.graph_record.proofs.Stored.{set_kept}
 use Rattle.undo_delta.specs.Apply.{after, with_property}
 use Rattle.undo_delta.specs.Change.{is_possible, changed, linked, unlinked}
-use Rattle.undo_delta.specs.Form.{IsForm}
+use Rattle.graph_record.specs.Form.{IsForm}
 use Rattle.undo_delta.specs.declared.delta.Delta.TheVariants as delta
 use Rattle.undo_delta.specs.declared.op.Op.{Op}
 use Rattle.undo_delta.specs.declared.op.Op.TheVariants.{CreateVertex, DeleteVertex, AddLabel, RemoveLabel, SetVertexProp, CreateEdge, DeleteEdge, SetEdgeProp}

@@ -20,7 +20,7 @@ use Rattle.graph_record.proofs.Edges.{edge_cmp_total}
 use Rattle.graph_record.proofs.Place.{removed_absent}
 use Rattle.undo_delta.specs.Apply.{after, with_property}
 use Rattle.undo_delta.specs.Change.{no_delta, one_delta, undone_by, value_or_null, kept, property_deltas, is_possible, changed, deltas_of, linked, unlinked, end_deltas}
-use Rattle.undo_delta.specs.Form.{IsForm}
+use Rattle.graph_record.specs.Form.{IsForm}
 use Rattle.undo_delta.specs.Touch.{is_touched}
 use Rattle.undo_delta.specs.declared.delta.Delta.TheVariants as delta
 use Rattle.undo_delta.specs.declared.op.Op.{Op}

@@ -1,4 +1,3 @@
 pub mod Touch
 pub mod Apply
 pub mod Change
-pub mod Form

@@ -2,13 +2,12 @@ ghost use Rattle.std.specs.Prelude.{◌≡◌, ◌↔◌, None, IfOk, OnOk, OnEr
 ghost use Rattle.graph_record.specs.declared.object.Object.TheVariants.{Dead, Edge};
 ghost use Rattle.graph_record.specs.Record.{empty_vertex};
 ghost use Rattle.undo_delta.specs.Change.{is_possible, changed, deltas_of, one_delta, undone_by, new_edge};
-ghost use Rattle.undo_delta.specs.Form.{IsForm};
+ghost use Rattle.graph_record.specs.Form.{IsForm};
 ghost use Rattle.undo_delta.specs.Touch.{is_touched};
 ghost use Rattle.undo_delta.specs.declared.delta.Delta.TheVariants as delta;
 
 use crate::edit::{add_label, remove_label, set_value};
 use crate::ends::{link, unlink};
-use crate::form::see_form;
 use crate::{Delta, DeltaPair, Former, NoMemory, Op};
 use graph_record::{EdgeRecord, Kind, Object, Properties, VertexRecord};
 use graph_value::{Name, Oid, VertexId};
@@ -28,7 +27,7 @@ pub fn change(alloc: Global, x: Oid, object: &mut Object, op: &Op) -> Result<Del
     ensures form { IsForm object.old }
     ensures err { OnErr result (object.new ≡ object.old) }
 {
-    see_form(object);
+    object.form();
     change_parts(alloc, x, object, op)
 }
 

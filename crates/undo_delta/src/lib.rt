@@ -14,7 +14,6 @@ mod changing;
 mod delta;
 mod edit;
 mod ends;
-mod form;
 mod former;
 mod graph_undo;
 mod op;

@@ -19,7 +19,7 @@ use Rattle.undo_delta.specs.declared.op.Op.TheVariants.{CreateVertex, DeleteVert
 use Rattle.world_model.specs.Op.{apply, apply_all, is_possible, changes, are_sound}
 use Rattle.world_model.proofs.Objects.{object_at-apply, same_edge, touched_end, touched_edge}
 use Rattle.world_model.proofs.GraphOrder.{vertices_sorted, edges_sorted}
-use Rattle.world_model.proofs.Ends.{Side, leaving, coming}
+use Rattle.world_model.proofs.Ends.{Side, side}
 use Rattle.world_model.proofs.Folds.{and_left_true, and_right_true, possible_at}
 
 choice : {A : Type 0} (F : A → Bool) (b : Bool) (p o : A) (n : Bool) → (b ≡ true → F p ≡ n) → (b ≡ false → F o ≡ n) → F (cond b p o) ≡ n
@@ -110,12 +110,12 @@ module _ (s : Side) where
 
 -- a possible write keeps a graph coherent
 pub coherent-apply : (op : Op) (g : Graph) → is_possible op g ≡ true → IsCoherent g → IsCoherent (apply op g)
-unfolding Agree leaving coming
+unfolding Agree side
 coherent-apply op g possible c = record {
   vertices_ascend = vertices_sorted op g c.vertices_ascend;
   edges_ascend = edges_sorted op g c.edges_ascend;
-  starts = λ e v. agrees leaving op g e v possible (c.starts e v);
-  ends = λ e v. agrees coming op g e v possible (c.ends e v);
+  starts = λ e v. agrees (side true) op g e v possible (c.starts e v);
+  ends = λ e v. agrees (side false) op g e v possible (c.ends e v);
 }
 
 -- and so do sound writes

@@ -5,7 +5,7 @@ use Rattle.graph_value.specs.declared.id.Oid.{Oid}
 use Rattle.graph_value.specs.declared.id.Oid.TheVariants.{Vertex, Edge}
 use Rattle.graph_record.specs.Graph.{Graph, object_at}
 use Rattle.undo_delta.specs.Change.{changed, deltas_of, no_delta, one_delta}
-use Rattle.undo_delta.specs.Form.{IsForm}
+use Rattle.graph_record.specs.Form.{IsForm}
 use Rattle.undo_delta.specs.Touch.{is_touched, same_oid}
 use Rattle.undo_delta.specs.declared.delta.Delta.{Delta}
 use Rattle.undo_delta.specs.declared.op.Op.{Op}

@@ -9,9 +9,11 @@ use Rattle.graph_value.specs.declared.id.EdgeId.{EdgeId}
 use Rattle.graph_record.specs.declared.object.Object.{Object}
 use Rattle.graph_record.specs.declared.object.Object.TheVariants as object
 use Rattle.graph_record.specs.Record.{empty_vertex}
-use Rattle.graph_record.specs.Graph.{is_dead, has_out, has_in, comes_from, goes_to}
+use Rattle.graph_record.specs.Graph.{is_dead, is_listed, is_named}
 use Rattle.undo_delta.specs.Apply.{on_vertex, with_property}
 use Rattle.undo_delta.specs.Change as one
+use Rattle.graph_record.specs.declared.object.VertexRecord.{VertexRecord}
+use Rattle.graph_record.specs.declared.object.EdgeRecord.{EdgeRecord}
 use Rattle.undo_delta.specs.Change.{changed, new_edge, linked, unlinked, is_vertex, is_without_edges, goes_between}
 use Rattle.world_model.proofs.EdgeLists.{lists, lists_added, lists_removed}
 use Rattle.world_model.proofs.Folds.{and_left_true, and_right_true}
@@ -45,53 +47,54 @@ through a b n e = grind (arith, nat_tests)
 pub number_of : (a b : ℕ) → nat_eq a b ≡ nat_eq b a
 number_of a b = grind (arith, nat_tests)
 
-pub out_linked : (leaves comes : Bool) (e f : EdgeId) (o : Object) → is_vertex o ≡ true → has_out e (linked leaves comes f o) ≡ ((leaves && nat_eq f.0 e.0) || has_out e o)
-out_linked leaves comes e f object.Dead h = absurd (false≢true h)
-out_linked leaves comes e f (object.Edge r) h = absurd (false≢true h)
-out_linked true true e f (object.Vertex r) h = lists_added e f r.outs
-out_linked true false e f (object.Vertex r) h = lists_added e f r.outs
-out_linked false true e f (object.Vertex r) h = refl
-out_linked false false e f (object.Vertex r) h = refl
+-- which end: true for the vertex that an edge comes from, false for the one that it goes to
+abbrev pub edges_at : Bool → VertexRecord → List EdgeId
+edges_at true = λ r. r.outs
+edges_at false = λ r. r.ins
 
-pub in_linked : (leaves comes : Bool) (e f : EdgeId) (o : Object) → is_vertex o ≡ true → has_in e (linked leaves comes f o) ≡ ((comes && nat_eq f.0 e.0) || has_in e o)
-in_linked leaves comes e f object.Dead h = absurd (false≢true h)
-in_linked leaves comes e f (object.Edge r) h = absurd (false≢true h)
-in_linked true true e f (object.Vertex r) h = lists_added e f r.ins
-in_linked true false e f (object.Vertex r) h = refl
-in_linked false true e f (object.Vertex r) h = lists_added e f r.ins
-in_linked false false e f (object.Vertex r) h = refl
+abbrev pub vertex_at : Bool → EdgeRecord → VertexId
+vertex_at true = λ r. r.from
+vertex_at false = λ r. r.to
+
+abbrev pub at_end : {A : Type 0} → Bool → A → A → A
+at_end true from to = from
+at_end false from to = to
+
+pub listed_linked : (end leaves comes : Bool) (e f : EdgeId) (o : Object) → is_vertex o ≡ true →
+    is_listed (edges_at end) e (linked leaves comes f o) ≡ ((at_end end leaves comes && nat_eq f.0 e.0) || is_listed (edges_at end) e o)
+listed_linked end leaves comes e f object.Dead h = absurd (false≢true h)
+listed_linked end leaves comes e f (object.Edge r) h = absurd (false≢true h)
+listed_linked true true true e f (object.Vertex r) h = lists_added e f r.outs
+listed_linked true true false e f (object.Vertex r) h = lists_added e f r.outs
+listed_linked true false true e f (object.Vertex r) h = refl
+listed_linked true false false e f (object.Vertex r) h = refl
+listed_linked false true true e f (object.Vertex r) h = lists_added e f r.ins
+listed_linked false true false e f (object.Vertex r) h = refl
+listed_linked false false true e f (object.Vertex r) h = lists_added e f r.ins
+listed_linked false false false e f (object.Vertex r) h = refl
 
 never : (b : Bool) → false ≡ (not b && false)
 never true = refl
 never false = refl
 
-pub out_unlinked : (leaves comes : Bool) (e f : EdgeId) (o : Object) → has_out e (unlinked leaves comes f o) ≡ (not (leaves && nat_eq f.0 e.0) && has_out e o)
-out_unlinked true true e f object.Dead = never (nat_eq f.0 e.0)
-out_unlinked true false e f object.Dead = never (nat_eq f.0 e.0)
-out_unlinked false true e f object.Dead = refl
-out_unlinked false false e f object.Dead = refl
-out_unlinked true true e f (object.Edge r) = never (nat_eq f.0 e.0)
-out_unlinked true false e f (object.Edge r) = never (nat_eq f.0 e.0)
-out_unlinked false true e f (object.Edge r) = refl
-out_unlinked false false e f (object.Edge r) = refl
-out_unlinked true true e f (object.Vertex r) = lists_removed e f r.outs
-out_unlinked true false e f (object.Vertex r) = lists_removed e f r.outs
-out_unlinked false true e f (object.Vertex r) = refl
-out_unlinked false false e f (object.Vertex r) = refl
-
-pub in_unlinked : (leaves comes : Bool) (e f : EdgeId) (o : Object) → has_in e (unlinked leaves comes f o) ≡ (not (comes && nat_eq f.0 e.0) && has_in e o)
-in_unlinked true true e f object.Dead = never (nat_eq f.0 e.0)
-in_unlinked true false e f object.Dead = refl
-in_unlinked false true e f object.Dead = never (nat_eq f.0 e.0)
-in_unlinked false false e f object.Dead = refl
-in_unlinked true true e f (object.Edge r) = never (nat_eq f.0 e.0)
-in_unlinked true false e f (object.Edge r) = refl
-in_unlinked false true e f (object.Edge r) = never (nat_eq f.0 e.0)
-in_unlinked false false e f (object.Edge r) = refl
-in_unlinked true true e f (object.Vertex r) = lists_removed e f r.ins
-in_unlinked true false e f (object.Vertex r) = refl
-in_unlinked false true e f (object.Vertex r) = lists_removed e f r.ins
-in_unlinked false false e f (object.Vertex r) = refl
+pub listed_unlinked : (end leaves comes : Bool) (e f : EdgeId) (o : Object) →
+    is_listed (edges_at end) e (unlinked leaves comes f o) ≡ (not (at_end end leaves comes && nat_eq f.0 e.0) && is_listed (edges_at end) e o)
+listed_unlinked end true true e f object.Dead = never (at_end end true true && nat_eq f.0 e.0)
+listed_unlinked end true false e f object.Dead = never (at_end end true false && nat_eq f.0 e.0)
+listed_unlinked end false true e f object.Dead = never (at_end end false true && nat_eq f.0 e.0)
+listed_unlinked end false false e f object.Dead = never (at_end end false false && nat_eq f.0 e.0)
+listed_unlinked end true true e f (object.Edge r) = never (at_end end true true && nat_eq f.0 e.0)
+listed_unlinked end true false e f (object.Edge r) = never (at_end end true false && nat_eq f.0 e.0)
+listed_unlinked end false true e f (object.Edge r) = never (at_end end false true && nat_eq f.0 e.0)
+listed_unlinked end false false e f (object.Edge r) = never (at_end end false false && nat_eq f.0 e.0)
+listed_unlinked true true true e f (object.Vertex r) = lists_removed e f r.outs
+listed_unlinked true true false e f (object.Vertex r) = lists_removed e f r.outs
+listed_unlinked true false true e f (object.Vertex r) = refl
+listed_unlinked true false false e f (object.Vertex r) = refl
+listed_unlinked false true true e f (object.Vertex r) = lists_removed e f r.ins
+listed_unlinked false true false e f (object.Vertex r) = refl
+listed_unlinked false false true e f (object.Vertex r) = lists_removed e f r.ins
+listed_unlinked false false false e f (object.Vertex r) = refl
 
 pub apart_and : (b c : Bool) → c ≡ false → (b && c) ≡ false
 apart_and true c h = h
@@ -124,146 +127,99 @@ pub taken_out : (a b : Bool) → (a ≡ false → b ≡ false) → (not (a && tr
 taken_out true b h = refl
 taken_out false b h = h refl
 
--- the edges that leave a vertex
-unfoldable pub leaving : Side
-leaving = record {
-  listed = has_out;
-  names = comes_from;
-  here = λ v from to. nat_eq v.0 from.0;
-  dead_lists = dead_out;
-  new_lists = λ e. refl;
-  bare_lists = bare_out;
-  labels_kept = labels_out;
-  property_lists = property_out;
-  property_names = property_from;
-  dead_names = dead_from;
-  link_other = λ e f v from to o apart. link_out e f (nat_eq v.0 from.0) (nat_eq v.0 to.0) o (number_apart e f apart);
+-- the edges at one end of their vertices
+unfoldable pub side : Bool → Side
+side end = record {
+  listed = is_listed (edges_at end);
+  names = is_named (vertex_at end);
+  here = λ v from to. at_end end (nat_eq v.0 from.0) (nat_eq v.0 to.0);
+  dead_lists = dead_lists;
+  new_lists = new_lists end;
+  bare_lists = bare_lists end;
+  labels_kept = labels_kept end;
+  property_lists = property_lists end;
+  property_names = property_names end;
+  dead_names = dead_names;
+  link_other = λ e f v from to o apart. link_apart e f (nat_eq v.0 from.0) (nat_eq v.0 to.0) o (number_apart e f apart);
   unlink_other = λ e f v from to o apart.
-      out_unlinked (nat_eq v.0 from.0) (nat_eq v.0 to.0) e f o ∙ ap (λ b. not b && has_out e o) (apart_and (nat_eq v.0 from.0) (nat_eq f.0 e.0) (number_apart e f apart));
+      listed_unlinked end (nat_eq v.0 from.0) (nat_eq v.0 to.0) e f o
+      ∙ ap (λ b. not b && is_listed (edges_at end) e o) (apart_and (at_end end (nat_eq v.0 from.0) (nat_eq v.0 to.0)) (nat_eq f.0 e.0) (number_apart e f apart));
   link_here = λ e v from to o alive unlisted.
-      out_linked (nat_eq v.0 from.0) (nat_eq v.0 to.0) e e o alive
-      ∙ ap (λ b. (nat_eq v.0 from.0 && b) || has_out e o) (itself e.0) ∙ ap (λ b. (nat_eq v.0 from.0 && true) || b) unlisted ∙ and_true (nat_eq v.0 from.0);
+      listed_linked end (nat_eq v.0 from.0) (nat_eq v.0 to.0) e e o alive
+      ∙ ap (λ b. (at_end end (nat_eq v.0 from.0) (nat_eq v.0 to.0) && b) || is_listed (edges_at end) e o) (itself e.0)
+      ∙ ap (λ b. (at_end end (nat_eq v.0 from.0) (nat_eq v.0 to.0) && true) || b) unlisted ∙ and_true (at_end end (nat_eq v.0 from.0) (nat_eq v.0 to.0));
   unlink_here = λ e v from to o away.
-      out_unlinked (nat_eq v.0 from.0) (nat_eq v.0 to.0) e e o ∙ ap (λ b. not (nat_eq v.0 from.0 && b) && has_out e o) (itself e.0) ∙ taken_out (nat_eq v.0 from.0) (has_out e o) away;
-  new_names = λ v from to kind. number_of from.0 v.0;
-  between_names = from_between;
-  here_touched = λ v from to h. left_false _ _ h;
+      listed_unlinked end (nat_eq v.0 from.0) (nat_eq v.0 to.0) e e o
+      ∙ ap (λ b. not (at_end end (nat_eq v.0 from.0) (nat_eq v.0 to.0) && b) && is_listed (edges_at end) e o) (itself e.0)
+      ∙ taken_out (at_end end (nat_eq v.0 from.0) (nat_eq v.0 to.0)) (is_listed (edges_at end) e o) away;
+  new_names = new_names end;
+  between_names = between_names end;
+  here_touched = here_touched end;
 }
   where
-    dead_out : (e : EdgeId) (o : Object) → is_dead o ≡ true → has_out e o ≡ false
-    dead_out e object.Dead h = refl
-    dead_out e (object.Vertex r) h = absurd (false≢true h)
-    dead_out e (object.Edge r) h = refl
+    dead_lists : (e : EdgeId) (o : Object) → is_dead o ≡ true → is_listed (edges_at end) e o ≡ false
+    dead_lists e object.Dead h = refl
+    dead_lists e (object.Vertex r) h = absurd (false≢true h)
+    dead_lists e (object.Edge r) h = refl
 
-    bare_out : (e : EdgeId) (o : Object) → is_without_edges o ≡ true → has_out e o ≡ false
-    bare_out e object.Dead h = refl
-    bare_out e (object.Vertex r) h = no_edges r.outs e (and_left_true _ _ h)
-    bare_out e (object.Edge r) h = refl
+    dead_names : (v : VertexId) (o : Object) → is_dead o ≡ true → is_named (vertex_at end) v o ≡ false
+    dead_names v object.Dead h = refl
+    dead_names v (object.Vertex r) h = refl
+    dead_names v (object.Edge r) h = absurd (false≢true h)
 
-    labels_out : (e : EdgeId) (f : List (List ℕ) → List (List ℕ)) (o : Object) → has_out e (on_vertex (λ r. record r { labels = f r.labels }) o) ≡ has_out e o
-    labels_out e f object.Dead = refl
-    labels_out e f (object.Vertex r) = refl
-    labels_out e f (object.Edge r) = refl
+    new_lists : (end : Bool) (e : EdgeId) → is_listed (edges_at end) e (object.Vertex empty_vertex) ≡ false
+    new_lists true e = refl
+    new_lists false e = refl
 
-    property_out : (e : EdgeId) (k : List ℕ) (x : Value) (o : Object) → has_out e (with_property k x o) ≡ has_out e o
-    property_out e k x object.Dead = refl
-    property_out e k x (object.Vertex r) = refl
-    property_out e k x (object.Edge r) = refl
+    bare_lists : (end : Bool) (e : EdgeId) (o : Object) → is_without_edges o ≡ true → is_listed (edges_at end) e o ≡ false
+    bare_lists end e object.Dead h = refl
+    bare_lists true e (object.Vertex r) h = no_edges r.outs e (and_left_true _ _ h)
+    bare_lists false e (object.Vertex r) h = no_edges r.ins e (and_right_true (one.is_empty r.outs) _ h)
+    bare_lists end e (object.Edge r) h = refl
 
-    property_from : (v : VertexId) (k : List ℕ) (x : Value) (o : Object) → comes_from v (with_property k x o) ≡ comes_from v o
-    property_from v k x object.Dead = refl
-    property_from v k x (object.Vertex r) = refl
-    property_from v k x (object.Edge r) = refl
+    labels_kept : (end : Bool) (e : EdgeId) (f : List (List ℕ) → List (List ℕ)) (o : Object) →
+        is_listed (edges_at end) e (on_vertex (λ r. record r { labels = f r.labels }) o) ≡ is_listed (edges_at end) e o
+    labels_kept end e f object.Dead = refl
+    labels_kept true e f (object.Vertex r) = refl
+    labels_kept false e f (object.Vertex r) = refl
+    labels_kept end e f (object.Edge r) = refl
 
-    dead_from : (v : VertexId) (o : Object) → is_dead o ≡ true → comes_from v o ≡ false
-    dead_from v object.Dead h = refl
-    dead_from v (object.Vertex r) h = refl
-    dead_from v (object.Edge r) h = absurd (false≢true h)
+    property_lists : (end : Bool) (e : EdgeId) (k : List ℕ) (x : Value) (o : Object) → is_listed (edges_at end) e (with_property k x o) ≡ is_listed (edges_at end) e o
+    property_lists end e k x object.Dead = refl
+    property_lists true e k x (object.Vertex r) = refl
+    property_lists false e k x (object.Vertex r) = refl
+    property_lists end e k x (object.Edge r) = refl
 
-    link_out : (e f : EdgeId) (a b : Bool) (o : Object) → nat_eq f.0 e.0 ≡ false → has_out e (linked a b f o) ≡ has_out e o
-    link_out e f a b (object.Vertex r) apart = out_linked a b e f (object.Vertex r) refl ∙ ap (λ c. c || has_out e (object.Vertex r)) (apart_and a (nat_eq f.0 e.0) apart)
-    link_out e f true true object.Dead apart = refl
-    link_out e f true false object.Dead apart = refl
-    link_out e f false true object.Dead apart = refl
-    link_out e f false false object.Dead apart = refl
-    link_out e f true true (object.Edge r) apart = refl
-    link_out e f true false (object.Edge r) apart = refl
-    link_out e f false true (object.Edge r) apart = refl
-    link_out e f false false (object.Edge r) apart = refl
+    property_names : (end : Bool) (v : VertexId) (k : List ℕ) (x : Value) (o : Object) → is_named (vertex_at end) v (with_property k x o) ≡ is_named (vertex_at end) v o
+    property_names end v k x object.Dead = refl
+    property_names end v k x (object.Vertex r) = refl
+    property_names true v k x (object.Edge r) = refl
+    property_names false v k x (object.Edge r) = refl
 
-    from_between : (v from to : VertexId) (o : Object) → goes_between from to o ≡ true → comes_from v o ≡ nat_eq v.0 from.0
-    from_between v from to object.Dead h = absurd (false≢true h)
-    from_between v from to (object.Vertex r) h = absurd (false≢true h)
-    from_between v from to (object.Edge r) h = through r.from.0 from.0 v.0 (and_left_true _ _ h)
+    new_names : (end : Bool) (v from to : VertexId) (kind : List ℕ) →
+        is_named (vertex_at end) v (object.Edge (new_edge kind from to)) ≡ at_end end (nat_eq v.0 from.0) (nat_eq v.0 to.0)
+    new_names true v from to kind = number_of from.0 v.0
+    new_names false v from to kind = number_of to.0 v.0
 
--- and those that come to it
-unfoldable pub coming : Side
-coming = record {
-  listed = has_in;
-  names = goes_to;
-  here = λ v from to. nat_eq v.0 to.0;
-  dead_lists = dead_in;
-  new_lists = λ e. refl;
-  bare_lists = bare_in;
-  labels_kept = labels_in;
-  property_lists = property_in;
-  property_names = property_to;
-  dead_names = dead_to;
-  link_other = λ e f v from to o apart. link_in e f (nat_eq v.0 from.0) (nat_eq v.0 to.0) o (number_apart e f apart);
-  unlink_other = λ e f v from to o apart.
-      in_unlinked (nat_eq v.0 from.0) (nat_eq v.0 to.0) e f o ∙ ap (λ b. not b && has_in e o) (apart_and (nat_eq v.0 to.0) (nat_eq f.0 e.0) (number_apart e f apart));
-  link_here = λ e v from to o alive unlisted.
-      in_linked (nat_eq v.0 from.0) (nat_eq v.0 to.0) e e o alive
-      ∙ ap (λ b. (nat_eq v.0 to.0 && b) || has_in e o) (itself e.0) ∙ ap (λ b. (nat_eq v.0 to.0 && true) || b) unlisted ∙ and_true (nat_eq v.0 to.0);
-  unlink_here = λ e v from to o away.
-      in_unlinked (nat_eq v.0 from.0) (nat_eq v.0 to.0) e e o ∙ ap (λ b. not (nat_eq v.0 to.0 && b) && has_in e o) (itself e.0) ∙ taken_out (nat_eq v.0 to.0) (has_in e o) away;
-  new_names = λ v from to kind. number_of to.0 v.0;
-  between_names = to_between;
-  here_touched = λ v from to h. right_false (nat_eq v.0 from.0) _ h;
-}
-  where
-    dead_in : (e : EdgeId) (o : Object) → is_dead o ≡ true → has_in e o ≡ false
-    dead_in e object.Dead h = refl
-    dead_in e (object.Vertex r) h = absurd (false≢true h)
-    dead_in e (object.Edge r) h = refl
+    between_names : (end : Bool) (v from to : VertexId) (o : Object) → goes_between from to o ≡ true →
+        is_named (vertex_at end) v o ≡ at_end end (nat_eq v.0 from.0) (nat_eq v.0 to.0)
+    between_names end v from to object.Dead h = absurd (false≢true h)
+    between_names end v from to (object.Vertex r) h = absurd (false≢true h)
+    between_names true v from to (object.Edge r) h = through r.from.0 from.0 v.0 (and_left_true _ _ h)
+    between_names false v from to (object.Edge r) h = through r.to.0 to.0 v.0 (and_right_true (nat_eq r.from.0 from.0) _ h)
 
-    bare_in : (e : EdgeId) (o : Object) → is_without_edges o ≡ true → has_in e o ≡ false
-    bare_in e object.Dead h = refl
-    bare_in e (object.Vertex r) h = no_edges r.ins e (and_right_true (one.is_empty r.outs) _ h)
-    bare_in e (object.Edge r) h = refl
+    here_touched : (end : Bool) (v from to : VertexId) → (nat_eq v.0 from.0 || nat_eq v.0 to.0) ≡ false → at_end end (nat_eq v.0 from.0) (nat_eq v.0 to.0) ≡ false
+    here_touched true v from to h = left_false _ _ h
+    here_touched false v from to h = right_false (nat_eq v.0 from.0) _ h
 
-    labels_in : (e : EdgeId) (f : List (List ℕ) → List (List ℕ)) (o : Object) → has_in e (on_vertex (λ r. record r { labels = f r.labels }) o) ≡ has_in e o
-    labels_in e f object.Dead = refl
-    labels_in e f (object.Vertex r) = refl
-    labels_in e f (object.Edge r) = refl
-
-    property_in : (e : EdgeId) (k : List ℕ) (x : Value) (o : Object) → has_in e (with_property k x o) ≡ has_in e o
-    property_in e k x object.Dead = refl
-    property_in e k x (object.Vertex r) = refl
-    property_in e k x (object.Edge r) = refl
-
-    property_to : (v : VertexId) (k : List ℕ) (x : Value) (o : Object) → goes_to v (with_property k x o) ≡ goes_to v o
-    property_to v k x object.Dead = refl
-    property_to v k x (object.Vertex r) = refl
-    property_to v k x (object.Edge r) = refl
-
-    dead_to : (v : VertexId) (o : Object) → is_dead o ≡ true → goes_to v o ≡ false
-    dead_to v object.Dead h = refl
-    dead_to v (object.Vertex r) h = refl
-    dead_to v (object.Edge r) h = absurd (false≢true h)
-
-    link_in : (e f : EdgeId) (a b : Bool) (o : Object) → nat_eq f.0 e.0 ≡ false → has_in e (linked a b f o) ≡ has_in e o
-    link_in e f a b (object.Vertex r) apart = in_linked a b e f (object.Vertex r) refl ∙ ap (λ c. c || has_in e (object.Vertex r)) (apart_and b (nat_eq f.0 e.0) apart)
-    link_in e f true true object.Dead apart = refl
-    link_in e f true false object.Dead apart = refl
-    link_in e f false true object.Dead apart = refl
-    link_in e f false false object.Dead apart = refl
-    link_in e f true true (object.Edge r) apart = refl
-    link_in e f true false (object.Edge r) apart = refl
-    link_in e f false true (object.Edge r) apart = refl
-    link_in e f false false (object.Edge r) apart = refl
-
-    to_between : (v from to : VertexId) (o : Object) → goes_between from to o ≡ true → goes_to v o ≡ nat_eq v.0 to.0
-    to_between v from to object.Dead h = absurd (false≢true h)
-    to_between v from to (object.Vertex r) h = absurd (false≢true h)
-    to_between v from to (object.Edge r) h = through r.to.0 to.0 v.0 (and_right_true (nat_eq r.from.0 from.0) _ h)
+    link_apart : (e f : EdgeId) (a b : Bool) (o : Object) → nat_eq f.0 e.0 ≡ false → is_listed (edges_at end) e (linked a b f o) ≡ is_listed (edges_at end) e o
+    link_apart e f a b (object.Vertex r) apart =
+        listed_linked end a b e f (object.Vertex r) refl ∙ ap (λ c. c || is_listed (edges_at end) e (object.Vertex r)) (apart_and (at_end end a b) (nat_eq f.0 e.0) apart)
+    link_apart e f true true object.Dead apart = refl
+    link_apart e f true false object.Dead apart = refl
+    link_apart e f false true object.Dead apart = refl
+    link_apart e f false false object.Dead apart = refl
+    link_apart e f true true (object.Edge r) apart = refl
+    link_apart e f true false (object.Edge r) apart = refl
+    link_apart e f false true (object.Edge r) apart = refl
+    link_apart e f false false (object.Edge r) apart = refl

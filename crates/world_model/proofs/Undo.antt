@@ -14,7 +14,7 @@ use Rattle.undo_law.specs.declared.dated.Dated.{Dated}
 use Rattle.undo_delta.specs.Apply.{after}
 use Rattle.undo_delta.specs.Change as one
 use Rattle.undo_delta.specs.Change.{changed, undone_by}
-use Rattle.undo_delta.specs.Form.{IsForm}
+use Rattle.graph_record.specs.Form.{IsForm}
 use Rattle.undo_delta.specs.Touch.{is_touched}
 use Rattle.undo_delta.specs.declared.delta.Delta.{Delta}
 use Rattle.undo_delta.specs.declared.op.Op.{Op}

@@ -8,7 +8,7 @@ use Rattle.graph_record.specs.declared.object.EdgeRecord.{EdgeRecord}
 use Rattle.graph_record.specs.declared.object.Object.{Object}
 use Rattle.graph_record.specs.declared.object.Object.TheVariants.{Dead, Vertex, Edge}
 use Rattle.graph_record.specs.Graph.{Graph, IsCoherent, empty_graph, object_at}
-use Rattle.undo_delta.specs.Form.{IsForm}
+use Rattle.graph_record.specs.Form.{IsForm}
 use Rattle.undo_delta.specs.Touch.{touches}
 use Rattle.undo_delta.specs.declared.op.Op.TheVariants as op
 use Rattle.world_model.specs.Op.{apply, apply_all, are_sound, is_possible, is_given, are_below, SameObjects}

@@ -4,7 +4,7 @@ ghost use Rattle.std.specs.Prelude.{◌≡◌, ◌≤◌, ◌↔◌, ◌++◌, t
 ghost use Rattle.graph_value.specs.declared.id.Oid.{Oid};
 ghost use Rattle.graph_record.specs.Graph.{Graph, IsCoherent, object_at};
 ghost use Rattle.undo_delta.specs.Change.{changed};
-ghost use Rattle.undo_delta.specs.Form.{IsForm};
+ghost use Rattle.graph_record.specs.Form.{IsForm};
 ghost use Rattle.undo_delta.specs.Touch.{is_touched};
 ghost use Rattle.world_model.specs.declared.event.Ask.{Ask};
 ghost use Rattle.undo_delta.specs.declared.op.Op.{Op};

@@ -1,4 +1,4 @@
-use Rattle.std.proofs.Common.{◌∙◌, sym, arith}
+use Rattle.std.proofs.Common.{◌∙◌, arith}
 use Rattle.std.proofs.lemmas.Result.{on_ok_weaker}
 use Rattle.graph_record.proofs.Tokens.{member_written, properties_written}
 use Rattle.graph_record.proofs.printing.write_properties.Goals as goal

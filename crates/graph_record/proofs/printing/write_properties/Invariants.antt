@@ -1,4 +1,4 @@
-use Rattle.std.proofs.Common.{◌∷◌, map, take}
+use Rattle.std.proofs.Common.{◌∷◌, take}
 use Rattle.json.specs.Token.{begin_object}
 use Rattle.graph_record.proofs.Tokens.{Wrote, members}
 use Rattle.graph_record.proofs.printing.write_properties.Given as goal

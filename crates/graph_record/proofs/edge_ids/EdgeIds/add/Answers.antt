@@ -1,4 +1,4 @@
-use Rattle.std.proofs.Common.{◌≡◌, not, sym, ap, subst, ◌∙◌, arith}
+use Rattle.std.proofs.Common.{not, sym, ap, subst, ◌∙◌, arith}
 use Rattle.std.specs.List.{insert}
 use Rattle.graph_record.proofs.Edges.{edge_cmp_total}
 use Rattle.graph_record.specs.Ascending.{IsAscendingIds}

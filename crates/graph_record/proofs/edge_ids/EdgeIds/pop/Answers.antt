@@ -1,6 +1,5 @@
-use Rattle.std.proofs.Common.{ap, take, length, sym, ◌-◌, ◌∙◌, arith}
-use Rattle.graph_record.proofs.Front.{one_less, front_ascends, take_front}
-use Rattle.graph_record.specs.Ascending.{IsAscendingIds}
+use Rattle.std.proofs.Common.{ap, take, length, ◌-◌, ◌∙◌, arith}
+use Rattle.graph_record.proofs.Front.{one_less, front_ascends}
 use Rattle.graph_record.proofs.edge_ids.EdgeIds.pop.Goals as goal
 
 pub invariant_of-self : goal.invariant_of-self

@@ -1,4 +1,4 @@
-use Rattle.std.proofs.Common.{ap, sym, subst, ◌∙◌, Some, get_or}
+use Rattle.std.proofs.Common.{ap, sym, subst, ◌∙◌, Some}
 use Rattle.std.proofs.lemmas.Cmp.{nat_list_cmp_total}
 use Rattle.graph_record.specs.Stored.{IsPropertyList}
 use Rattle.graph_record.proofs.Place.{find_at, find_gap, put_gap}
