@@ -1,5 +1,5 @@
 -- The lines of some bytes, one after the other.
-use Rattle.std.proofs.Common.{◌≡◌, ◌≢◌, ◌⊎◌, ℕ, Bool, List, [], ◌∷◌, ◌++◌, true, false, cond, eqb, refl, sym, ap, ◌∙◌, inl, inr, arith}
+use Rattle.std.proofs.Common.{◌≡◌, ◌≢◌, ◌⊎◌, ℕ, Bool, List, [], ◌∷◌, ◌++◌, true, false, cond, eqb, refl, ap, inl, inr, arith}
 use Rattle.std.proofs.lemmas.Bool.Decides.{nat_tests}
 use Rattle.wire_line.specs.Lines.{first_line, after_line, in_first, lines_of, in_ended, ended_lines, HasNoEnd}
 use Rattle.wire_line.proofs.FirstLine.{no_end-first}

@@ -1,5 +1,5 @@
 -- How a text is offered to a sink: whole, and then its rest, call by call.
-use Rattle.std.specs.Prelude.{◌≡◌, ◌≢◌, ℕ, List, [], drop, Result, Ok, Err, MatchResult}
+use Rattle.std.specs.Prelude.{◌≢◌, ℕ, List, [], drop, Result, Ok, Err, MatchResult}
 use Rattle.wire_line.specs.declared.failed.Failed.{Failed}
 
 -- One call, as the trait tells it: the sink before it, the piece that is offered, the answer and the sink after it.
