@@ -83,7 +83,7 @@ impl Row {
         ensures ok { OnOk result (self.new ≡ record { committed = self.old.committed; draft = Some draft }) }
         ensures err { OnErr result (self.new ≡ self.old) }
     {
-        self.committed.reserve(1)?;
+        reserve_one(&mut self.committed)?;
         self.draft = Some(draft);
         Ok(())
     }
@@ -116,6 +116,18 @@ impl Row {
             let object = draft.into_object();
             self.committed.push_reserved(Version { ts, object });
         }
+    }
+}
+
+/// Makes room for one more version: for the first one no more than that, since most objects have one alone.
+fn reserve_one(versions: &mut Vec<Version>) -> Result<(), NoMemory>
+    ensures same { versions.new.items ≡ versions.old.items }
+    ensures room { OnOk result (vec_len versions.new < vec_capacity versions.new) }
+{
+    if versions.is_empty() {
+        versions.reserve_exact(1)
+    } else {
+        versions.reserve(1)
     }
 }
 

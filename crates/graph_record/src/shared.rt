@@ -77,11 +77,13 @@ impl<T: Element> Shared<T> {
         match &mut self.items {
             Some(shared) => match Arc::get_mut(shared) {
                 Some(own) => {
+                    reserve_one(own)?;
                     own.insert(at, element)?;
                     Ok(())
                 }
                 None => {
                     let mut own = T::copy_all(self.alloc, shared.as_slice())?;
+                    reserve_one(&mut own)?;
                     own.insert(at, element)?;
                     *shared = Arc::new(self.alloc, own)?;
                     Ok(())
@@ -89,7 +91,7 @@ impl<T: Element> Shared<T> {
             },
             None => {
                 let mut own = Vec::new(self.alloc);
-                own.reserve_exact(1)?;
+                reserve_one(&mut own)?;
                 own.insert(at, element)?;
                 self.items = Some(Arc::new(self.alloc, own)?);
                 Ok(())
@@ -160,5 +162,19 @@ impl<T: Element> Shared<T> {
             },
             None => Ok(()),
         }
+    }
+}
+
+/// A list with fewer elements than this has no more room than it needs.
+const FEW: usize = 8;
+
+/// Makes room for one more element. Most lists are short, and stay so.
+fn reserve_one<T>(list: &mut Vec<T>) -> Result<(), NoMemory>
+    ensures { list.new.items ≡ list.old.items }
+{
+    if list.len() < FEW {
+        list.reserve_exact(1)
+    } else {
+        list.reserve(1)
     }
 }

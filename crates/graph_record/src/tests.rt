@@ -16,50 +16,69 @@ fn number(value: Option<&Value>) -> Option<i64> {
     }
 }
 
+/// Sets `k` to 2, copies, and sets it to 3: the former numbers, and those of the list and of its copy.
+fn replaced(alloc: Global, props: &mut Properties) -> Result<[Option<i64>; 4], NoMemory> {
+    let first = set_number(alloc, props, 2)?;
+    let copy = props.copy()?;
+    let second = set_number(alloc, props, 3)?;
+    Ok([first, second, number(props.get("k")), number(copy.get("k"))])
+}
+
 #[test]
 fn a_later_value_replaces_an_earlier_one_and_null_takes_it_away(
     rt: HostRuntime,
 ) -> Result<(), Fail> {
     let alloc = rt.alloc();
     let mut props = Properties::new(alloc);
-    assert_eq!(rt; set_number(alloc, &mut props, 2)?, None);
-    let copy = props.copy()?;
-    assert_eq!(rt; set_number(alloc, &mut props, 3)?, Some(2));
-    assert_eq!(rt; number(props.get("k")), Some(3));
-    assert_eq!(rt; number(copy.get("k")), Some(2));
+    let found = replaced(alloc, &mut props)?;
     props.set(Name::from_str(alloc, "k")?, Value::Null)?;
-    assert_eq!(rt; props.len(), 0);
+    assert!(rt; found == [None, Some(2), Some(3), Some(2)] && props.len() == 0);
     Ok(())
+}
+
+fn add_label(alloc: Global, labels: &mut Labels, label: &str) -> Result<bool, NoMemory> {
+    let label = Name::from_str(alloc, label)?;
+    labels.add(label)
+}
+
+/// Adds two labels, copies, and takes one away: whether it was there, whether the copy has it, how many are left.
+fn changed_labels(alloc: Global, labels: &mut Labels) -> Result<(bool, bool, usize), NoMemory> {
+    add_label(alloc, labels, "b")?;
+    add_label(alloc, labels, "a")?;
+    let copy = labels.copy()?;
+    Ok((labels.remove("a")?, copy.contains("a"), labels.len()))
 }
 
 #[test]
 fn labels_are_added_and_removed_and_copies_stay(rt: HostRuntime) -> Result<(), Fail> {
     let alloc = rt.alloc();
     let mut labels = Labels::new(alloc);
-    assert!(rt; labels.add(Name::from_str(alloc, "b")?)?);
-    assert!(rt; labels.add(Name::from_str(alloc, "a")?)?);
-    let copy = labels.copy()?;
-    assert!(rt; labels.remove("a")?);
-    assert!(rt; copy.contains("a"));
-    assert_eq!(rt; labels.len(), 1);
+    assert!(rt; changed_labels(alloc, &mut labels)? == (true, true, 1));
     Ok(())
+}
+
+/// Adds two edges, copies, takes the last off, adds a third and removes the first: the edge that was taken off, and
+/// whether the list and its copy hold what is left.
+fn changed_edges(edges: &mut EdgeIds) -> Result<(Option<EdgeId>, bool, bool), NoMemory> {
+    edges.add(EdgeId(7))?;
+    edges.add(EdgeId(5))?;
+    let copy = edges.copy()?;
+    let last = edges.pop();
+    edges.add(EdgeId(9))?;
+    edges.remove(EdgeId(5))?;
+    let left = edges.as_slice() == [EdgeId(9)].as_slice();
+    Ok((
+        last,
+        left,
+        copy.as_slice() == [EdgeId(5), EdgeId(7)].as_slice(),
+    ))
 }
 
 #[test]
 fn edges_are_added_and_removed_and_copies_stay(rt: HostRuntime) -> Result<(), Fail> {
-    let alloc = rt.alloc();
-    let mut edges = EdgeIds::new(alloc);
-    assert!(rt; edges.add(EdgeId(7))?);
-    assert!(rt; edges.add(EdgeId(5))?);
-    assert!(rt; edges.is_below(EdgeId(8)));
-    let copy = edges.copy()?;
-    assert_eq!(rt; edges.pop(), Some(EdgeId(7)));
-    assert!(rt; edges.add(EdgeId(9))?);
-    assert!(rt; edges.remove(EdgeId(5))?);
-    assert_eq!(rt; edges.as_slice(), [EdgeId(9)].as_slice());
-    assert_eq!(rt; copy.as_slice(), [EdgeId(5), EdgeId(7)].as_slice());
-    assert_eq!(rt; edges.len(), 1);
-    assert!(rt; edges.contains(EdgeId(9)));
+    let mut edges = EdgeIds::new(rt.alloc());
+    assert!(rt; changed_edges(&mut edges)? == (Some(EdgeId(7)), true, true));
+    assert!(rt; edges.len() == 1 && edges.contains(EdgeId(9)) && edges.is_below(EdgeId(10)));
     Ok(())
 }
 
