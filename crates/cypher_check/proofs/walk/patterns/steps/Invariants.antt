@@ -1,0 +1,10 @@
+use Rattle.std.proofs.Common.{◌≡◌, ◌++◌, drop}
+use Rattle.std.specs.List.{flat_map}
+use Rattle.cypher_syntax.specs.declared.tree.pattern.EdgePattern.{EdgePattern}
+use Rattle.cypher_syntax.specs.declared.tree.pattern.NodePattern.{NodePattern}
+use Rattle.cypher_check.specs.Asks.{after}
+use Rattle.cypher_check.specs.Clauses.{edge_asks, node_asks}
+use Rattle.cypher_check.proofs.walk.patterns.steps.Given as goal
+
+abbrev pub invariant-loop-e : goal.invariant-loop-e
+invariant-loop-e l = after l.scope (flat_map (λ (s : EdgePattern × NodePattern). edge_asks s.0 ++ node_asks s.1) (drop l.e-index l.steps)) ≡ after l.fn.scope (flat_map (λ (s : EdgePattern × NodePattern). edge_asks s.0 ++ node_asks s.1) l.steps)

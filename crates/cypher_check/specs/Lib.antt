@@ -1,0 +1,9 @@
+pub mod Names
+pub mod Marks
+pub mod Faults
+pub mod Same
+pub mod Asks
+pub mod Clauses
+pub mod Verdict
+pub mod Answer
+pub mod Standing

@@ -1,0 +1,19 @@
+//! Checks of a query that need no graph: names and shapes.
+#![tactic(auto)]
+
+mod checked;
+mod checking;
+mod laws;
+mod names;
+mod refused;
+mod same;
+mod scope;
+mod shape;
+#[cfg(test)]
+mod tests;
+mod walk;
+
+pub use checked::Checked;
+pub use checking::check;
+pub use laws::{names_are_distinct, names_stand};
+pub use refused::CheckRefused;
