@@ -36,15 +36,12 @@ fn a_later_value_replaces_an_earlier_one_and_null_takes_it_away(
     Ok(())
 }
 
-fn add_label(alloc: Global, labels: &mut Labels, label: &str) -> Result<bool, NoMemory> {
-    let label = Name::from_str(alloc, label)?;
-    labels.add(label)
-}
-
 /// Adds two labels, copies, and takes one away: whether it was there, whether the copy has it, how many are left.
 fn changed_labels(alloc: Global, labels: &mut Labels) -> Result<(bool, bool, usize), NoMemory> {
-    add_label(alloc, labels, "b")?;
-    add_label(alloc, labels, "a")?;
+    let later = Name::from_str(alloc, "b")?;
+    labels.add(later)?;
+    let earlier = Name::from_str(alloc, "a")?;
+    labels.add(earlier)?;
     let copy = labels.copy()?;
     Ok((labels.remove("a")?, copy.contains("a"), labels.len()))
 }
