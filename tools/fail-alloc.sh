@@ -1,5 +1,5 @@
 #!/usr/bin/env bash
-# Runs `aeong events` unproved on the lines of examples/first.events, once for each N of a range, with the Nth
+# Runs `aeong events` unproved on the lines of examples/network.events, once for each N of a range, with the Nth
 # allocation failing, and judges what it answered. It is no part of the gate.
 #
 #   tools/fail-alloc.sh FIRST LAST [STEP]
@@ -62,7 +62,7 @@ judge() {
     fi
 }
 
-grep -v '^#' "$top/examples/first.events" | grep -v '^[[:space:]]*$' >"$room/list"
+grep -v '^#' "$top/examples/network.events" | grep -v '^[[:space:]]*$' >"$room/list"
 if ! try "$room/list" "$room/whole"; then
     cat "$room/whole.log" >&2
     exit 2

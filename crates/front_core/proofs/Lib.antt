@@ -1,14 +1,20 @@
-pub mod VersionsLemmas
-pub mod CommitsLemmas
-pub mod WritesLemmas
-pub mod VersionLists
-pub mod Drafts
-pub mod Fits
-pub mod RowPlaces
-pub mod Keeping
-pub mod NoEdges
-pub mod Committing
-pub mod Steps
-pub mod Starts
-pub mod Drafting
-pub mod WriteAnswers
+mod Outlining
+mod Counting
+mod Outcomes
+mod Tabled
+mod Placing
+mod Booked
+mod Finding
+mod Newest
+mod Sight
+mod Left
+mod Fitting
+mod Stepping
+mod Ending
+mod Passing
+mod Touched
+mod Changing
+mod Written
+mod There
+mod Turning
+mod Starting

@@ -1,73 +1,89 @@
--- What the core keeps of a world.
-use Rattle.std.specs.Prelude.{◌≡◌, ℕ, ◌+◌, ◌-◌, List, [], ◌∷◌, Option, Some, None, true, false, length, nat_eq, nat_lt, slice_index_or, if◌then◌else◌}
+-- What the store keeps of a world.
+use Rattle.std.specs.Prelude.{◌≡◌, ℕ, List, [], ◌∷◌, ◌++◌, Option, Some, None, Bool, true, false, map}
 use Rattle.std.specs.List.{list_any}
 use Rattle.graph_value.specs.declared.id.Oid.{Oid}
-use Rattle.graph_value.specs.declared.id.Oid.TheVariants.{Vertex, Edge}
-use Rattle.graph_record.specs.Graph.{Graph, empty_graph, object_at}
-use Rattle.txn_manager.specs.Transactions.{Transactions}
-use Rattle.world_model.specs.Op.{apply_all, are_touching}
-use Rattle.world_model.specs.World.{World, Start, start_world, Commit, Txn, txn_of, view_of, transactions_of, InOrder}
-use Rattle.world_model.specs.History.{Entry, run, IsLegal, IsStart}
-use Rattle.front_core.specs.declared.version.Version.{Version}
-use Rattle.front_core.specs.declared.version.Draft.{Draft}
-use Rattle.front_core.specs.declared.writes.CallerWrites.{CallerWrites}
-use Rattle.front_core.specs.Versions.{Versions, no_versions, is_draft_of}
-use Rattle.front_core.specs.Writes.{vertices_of}
+use Rattle.graph_record.specs.Graph.{object_at}
+use Rattle.undo_law.specs.declared.dated.Dated.{Dated}
+use Rattle.undo_delta.specs.Touch.{same_oid}
+use Rattle.undo_delta.specs.declared.delta.Delta.{Delta}
+use Rattle.version_chain.specs.Entry.{open_entry}
+use Rattle.version_chain.specs.declared.entry.Entry.{Entry as ChainEntry}
+use Rattle.world_model.specs.Op.{are_touching}
+use Rattle.world_model.specs.World.{World, Start, start_world, Txn, txn_of, view_of, fold_of, transactions_of, InOrder}
+use Rattle.world_model.specs.Undo.{undo_list, open_list}
+use Rattle.world_model.specs.History.{Entry, run, IsAnswered, world_after, IsLegal, IsStart}
+use Rattle.front_core.specs.Rows.{ObjectRow}
+use Rattle.front_core.specs.Tables.{next_of}
+use Rattle.front_core.specs.Objects.{row_at}
+use Rattle.front_core.specs.Books.{times_of, find_txn}
+use Rattle.front_core.specs.declared.row.Writing.{Writing}
+use Rattle.front_core.specs.declared.transactions.Transaction.{Transaction}
+use Rattle.front_core.specs.declared.state.State.{State}
 
--- The state of the core: the open transactions, a row for each vertex from the first id on, and what each caller has written.
-pub record Kept : Type 0 where
-  pub transactions : Transactions
-  pub first : ℕ
-  pub rows : List Versions
-  pub edges : ℕ
-  pub writes : List CallerWrites
+abbrev pub committed_entry : Dated Delta → ChainEntry Delta
+committed_entry d = record { stamp = Some d.ts; delta = d.delta }
 
--- the row of an object; there is none below the first vertex, and none for an edge
-abbrev pub row_at : Kept → Oid → Versions
-row_at k (Vertex v) = if nat_lt v.0 k.first then no_versions else slice_index_or k.rows (v.0 - k.first) no_versions
-row_at k (Edge e) = no_versions
+-- The row of an object that no open transaction has written: the object after all commits, and their deltas.
+pub record Unwritten (w : World) (x : Oid) (r : ObjectRow) : Type 0 where
+  pub untouched : (caller : ℕ) (p : Txn) → txn_of w caller ≡ Some p → are_touching p.ops x ≡ false
+  pub newest : r.newest ≡ object_at (fold_of w.commits) x
+  pub chain : r.chain ≡ map committed_entry (undo_list w x)
 
--- the object as each commit that touches it left it, from a graph on
-unfoldable pub versions_from : Graph → List Commit → Oid → List Version
-versions_from g [] x = []
-versions_from g (c ∷ cs) x =
-    if are_touching c.ops x
-    then record { ts = c.ts; object = object_at (apply_all c.ops g) x } ∷ versions_from (apply_all c.ops g) cs x
-    else versions_from (apply_all c.ops g) cs x
+-- The row of an object that an open transaction has written: the object as that sees it, its deltas in front of those of
+-- the commits, and the object as the commits left it.
+pub record WrittenBy (w : World) (x : Oid) (r : ObjectRow) (by : Writing) (p : Txn) : Type 0 where
+  pub opened : txn_of w by.caller ≡ Some p
+  pub start : by.start ≡ p.start
+  pub touching : are_touching p.ops x ≡ true
+  pub newest : r.newest ≡ object_at (view_of w p) x
+  pub chain : r.chain ≡ map open_entry (open_list w p x) ++ map committed_entry (undo_list w x)
+  pub former : by.former ≡ object_at (fold_of w.commits) x
 
-abbrev pub versions_of : List Commit → Oid → List Version
-versions_of commits x = versions_from empty_graph commits x
+abbrev pub FitsBy : World → Oid → ObjectRow → Option Writing → Type 0
+FitsBy w x r None = Unwritten w x r
+FitsBy w x r (Some by) = (p : Txn) × WrittenBy w x r by p
 
--- A draft is the object in the view of the open transaction that has written it; without a draft, none has.
-abbrev pub FitsDraft : World → Oid → Option Draft → Type 0
-FitsDraft w x None = (caller : ℕ) (p : Txn) → txn_of w caller ≡ Some p → are_touching p.ops x ≡ false
-FitsDraft w x (Some d) = (p : Txn) × (txn_of w d.caller ≡ Some p) × (are_touching p.ops x ≡ true) × (d.object ≡ object_at (view_of w p) x)
+abbrev pub FitsRow : World → Oid → ObjectRow → Type 0
+FitsRow w x r = FitsBy w x r r.writing
 
-pub record FitsRow (w : World) (x : Oid) (r : Versions) : Type 0 where
-  pub committed : r.committed ≡ versions_of w.commits x
-  pub draft : FitsDraft w x r.draft
+-- an open transaction's list has just the objects that it has written
+abbrev pub FitsWritten : Option Transaction → Option Txn → Type 0
+FitsWritten None None = Unit {0}
+FitsWritten None (Some p) = ⊥
+FitsWritten (Some t) None = ⊥
+FitsWritten (Some t) (Some p) = (x : Oid) → list_any (same_oid x) t.written ≡ are_touching p.ops x
 
--- What the core keeps is this world's, and the world is in order.
-pub record Keeps (k : Kept) (w : World) : Type 0 where
+-- What the state keeps is this world's, and the world is in order.
+pub record Keeps (s : State) (w : World) : Type 0 where
   pub ordered : InOrder w
-  pub transactions : k.transactions ≡ transactions_of w
-  pub vertices : k.first + length k.rows ≡ w.vertices
-  pub edges : k.edges ≡ w.edges
-  -- each row has the object's versions and its draft
-  pub rows : (x : Oid) → FitsRow w x (row_at k x)
-  -- a caller's list has just the vertices with its drafts
-  pub listed : (caller v : ℕ) → list_any (nat_eq v) (vertices_of k.writes caller) ≡ is_draft_of caller (row_at k (Vertex (record { 0 = v }))).draft
-
--- The core stands for a history that began with these numbers: the history is legal, and the core keeps the world that it comes to.
-pub record StandsFor (s : Start) (k : Kept) (es : List Entry) : Type 0 where
-  pub start : IsStart s
-  pub legal : IsLegal s es
-  pub keeps : Keeps k (run (start_world s) es)
+  pub times : times_of s.transactions ≡ transactions_of w
+  pub written : (caller : ℕ) → FitsWritten (find_txn s.transactions.txns caller) (txn_of w caller)
+  pub vertices : next_of s.objects.vertices ≡ w.vertices
+  pub edges : next_of s.objects.edges ≡ w.edges
+  pub rows : (x : Oid) → FitsRow w x (row_at s.objects x)
 
 -- some world is the one that is kept
-abbrev pub KeepsSome : Kept → Type 0
-KeepsSome k = (w : World) × Keeps k w
+abbrev pub KeepsSome : State → Type 0
+KeepsSome s = (w : World) × Keeps s w
+
+-- The core stands for a history that began with these numbers: the history is legal, and the core keeps the world that
+-- it comes to.
+pub record StandsFor (b : Start) (s : State) (es : List Entry) : Type 0 where
+  pub start : IsStart b
+  pub legal : IsLegal b es
+  pub keeps : Keeps s (run (start_world b) es)
 
 -- the numbers that an empty store begins with
 abbrev pub first_start : Start
 first_start = record { clock = 1; vertices = 0; edges = 0 }
+
+-- ONE STEP
+
+-- the answer is one that the world allows, and the state keeps the world after it
+pub record Obeys (w : World) (new : State) (e : Entry) : Type 0 where
+  pub answered : IsAnswered w e
+  pub keeps : Keeps new (world_after w e)
+
+-- whichever world the state kept
+abbrev pub ObeysAll : State → State → Entry → Type 0
+ObeysAll old new e = (w : World) → Keeps old w → Obeys w new e

@@ -1,9 +1,8 @@
-pub mod Versions
-pub mod Writes
-pub mod Commits
+pub mod Outlines
+pub mod Rows
+pub mod RoomFor
+pub mod Tables
+pub mod Objects
+pub mod Books
 pub mod Keeps
-pub mod Drafted
-pub mod Finished
-pub mod Obeys
-pub mod Decision
-pub mod Drafts
+pub mod Opened

@@ -1,20 +1,30 @@
 //! The store as one state.
+//!
+//! Its rooms, from the inside out:
+//! - `Row`: one object in its newest form, the chain of deltas that leads back from there, and who is writing it.
+//! - `Rows` and `Objects`: the rows of all objects, found by their ids; a write of an edge changes three or none.
+//! - `Transactions`: the clock and the open transactions, each with the objects that it has written.
+//! - `State`: these two as a plain value. Each event is one method, and every write goes one way.
+//! - `Core`: the only room that speaks of histories. One step of the state is one step of each world that it keeps.
 #![tactic(auto)]
 
-mod beginning;
-mod decision;
-mod ending;
+mod edge_rows;
+mod effects;
 mod law;
-mod reads;
+mod objects;
+mod outline;
+mod reading;
 mod row;
+mod rows;
 mod state;
-mod version;
-mod writes;
+mod store;
+mod transactions;
+mod turns;
 mod writing;
 
 pub use law::histories_are_legal;
-pub use state::Core;
 use std::alloc::AllocError;
+pub use store::Core;
 
 /// Memory was wanting. No contract says when this answer comes.
 pub type NoMemory = AllocError;

@@ -1,176 +1,254 @@
-ghost use Rattle.std.specs.Prelude.{◌≡◌, ◌++◌, ◌∷◌, ◌-◌, ◌<◌, ◌&&◌, [], Some, IsTrue, nat_le, nat_lt, length, IsNone, IsSome, OnOk, OnErr, option_map, unwrap_or, vec_len, vec_capacity};
-ghost use Rattle.std.specs.List.{list_all};
-ghost use Rattle.std.specs.Option.{option_copied};
-ghost use Rattle.undo_delta.specs.Apply.{with_property};
-ghost use Rattle.front_core.specs.Versions.{newest_stamp, object_below, seen_object, committed_as, draft_with};
-ghost use Rattle.front_core.specs.Commits.{commit_listed};
+ghost use Rattle.std.specs.Prelude.{◌≡◌, ◌≤◌, ◌+◌, None, IfOk, OnOk, OnErr, IsTrue, is_none, is_some, if◌then◌else◌};
+ghost use Rattle.undo_delta.specs.Change.{is_possible};
+ghost use Rattle.undo_delta.specs.Touch.{is_touched, joined};
+ghost use Rattle.front_core.specs.Outlines.{outline_of};
+ghost use Rattle.front_core.specs.Rows.{aborted_row, begun_row, changed_row, committed_row, is_writer, no_row, other_start, push_some, pushed, row_at_instant, row_rival, seen, written_row, MayCommit};
+ghost use Rattle.front_core.specs.RoomFor.{count_of, delta_count};
 
 use crate::NoMemory;
-use crate::version::{Draft, Version};
+use crate::outline::Outline;
 use graph_record::Object;
-use graph_value::{Name, Value};
+use graph_value::Oid;
 use std::alloc::Global;
 use std::marker::Model;
+use txn_manager::{Rival, rival};
+use undo_delta::{Delta, DeltaPair, GraphUndo, Op, change};
+use version_chain::Chain;
 
-/// What the store keeps of one object: its committed versions, oldest first, and at most one draft.
-/// While there is a draft, room is kept for the version that it becomes, so that a commit takes no memory.
+/// The open transaction that writes an object.
 #[derive(Debug, Drop)]
+pub(crate) struct Writing {
+    pub caller: u64,
+    pub start: u64,
+    /// The object before the first write of the transaction.
+    pub former: Object,
+}
+
+/// What the store keeps of one object: its newest form, the deltas that lead back from there, and behind a pointer what
+/// only an object needs that is being written.
+#[derive(Drop)]
 pub(crate) struct Row {
-    committed: Vec<Version>,
-    draft: Option<Draft>,
+    pub newest: Object,
+    pub chain: Chain<GraphUndo>,
+    pub writing: Option<Box<Writing>>,
 }
 
 impl Model for Row {
-    ghost use Rattle.std.specs.Prelude.{◌<◌, vec_len, vec_capacity, IsSome};
-    ghost use Rattle.front_core.specs.Versions.{Versions};
-    ghost use Rattle.graph_value.specs.contracts.value.Value as property_value;
+    ghost use Rattle.std.specs.Prelude.{box_value, option_map};
     ghost use Rattle.std.specs.Coded.{codes};
+    ghost use Rattle.front_core.specs.Rows.{ObjectRow};
+    ghost use Rattle.graph_value.specs.contracts.value.Value as property_value;
 
-    ghost Value = { Versions };
+    ghost Value = { ObjectRow };
 
     ghost coded = { Prim.hlevel (codes, property_value.the_row.coded) };
 
-    ghost view = { λ r. record { committed = r.committed.items; draft = r.draft } };
-
-    ghost invariant = { λ r. IsSome r.draft → vec_len r.committed < vec_capacity r.committed };
+    ghost view = { λ r. record { newest = r.newest; chain = r.chain.entries; writing = option_map box_value r.writing } };
 }
 
 impl Row {
-    /// The row of an object that a transaction creates.
+    /// The row of an object that nobody has made. Takes no memory.
     pub fn new(alloc: Global) -> Row
-        ensures { result ≡ record { committed = []; draft = None } }
+        ensures { result ≡ no_row }
     {
         Row {
-            committed: Vec::new(alloc),
-            draft: None,
+            newest: Object::Dead,
+            chain: Chain::new(alloc),
+            writing: None,
         }
     }
 
-    /// Whose draft there is, or `None` where there is none.
-    pub fn writer(&self) -> Option<u64>
-        ensures { result ≡ option_map (λ d. d.caller) self.now.draft }
+    /// The object with all writes that were done on it, of an open transaction too.
+    pub fn newest(&self) -> &Object
+        ensures { result.now ≡ self.now.newest }
     {
-        match &self.draft {
-            Some(draft) => Some(draft.caller()),
-            None => None,
-        }
+        &self.newest
     }
 
-    /// The timestamp of the newest commit, or `None` where the object was never committed.
-    pub fn newest_commit(&self) -> Option<u64>
-        ensures { result ≡ newest_stamp self.now.committed }
+    /// Whether an open transaction writes the object.
+    pub fn is_written(&self) -> bool
+        ensures { result ≡ is_some self.now.writing }
     {
-        match self.committed.last() {
-            Some(version) => Some(version.ts),
-            None => None,
-        }
+        self.writing.is_some()
     }
 
-    /// The object as the transaction of the caller, which began at `start`, sees it: its own draft, else
-    /// what the commits below its start left. `None` says that there is no such object.
-    pub fn seen(&self, caller: u64, start: u64) -> Option<&Object>
-        ensures { unwrap_or (option_copied result) Object.Dead ≡ seen_object caller start self.now }
+    /// Whether the caller's open transaction writes the object.
+    fn is_own(&self, caller: u64) -> bool
+        ensures { result ≡ is_writer caller self.now.writing }
     {
-        match &self.draft {
-            Some(draft) if draft.caller() == caller => Some(draft.object()),
-            _ => newest_below(&self.committed, start),
+        match &self.writing {
+            Some(writing) => writing.caller == caller,
+            None => false,
         }
     }
 
-    /// Takes the draft, and keeps room for the version that it becomes. Where memory is wanting nothing changes.
-    pub fn begin_draft(&mut self, draft: Draft) -> Result<(), NoMemory>
-        requires { IsNone self.old.draft }
-        ensures ok { OnOk result (self.new ≡ record { committed = self.old.committed; draft = Some draft }) }
+    /// Who stands in the way of a write by the caller's transaction, which began at `start`.
+    pub fn rival(&self, caller: u64, start: u64) -> Option<Rival>
+        ensures { result ≡ row_rival caller start self.now }
+    {
+        rival(start, self.other_start(caller), self.chain.newest_commit())
+    }
+
+    /// The start of the transaction that writes the object, where it isn't the caller's.
+    fn other_start(&self, caller: u64) -> Option<u64>
+        ensures { result ≡ other_start caller self.now.writing }
+    {
+        match &self.writing {
+            Some(writing) if writing.caller != caller => Some(writing.start),
+            _ => None,
+        }
+    }
+
+    /// The object as the commits up to an instant left it. It costs the deltas that it undoes.
+    pub fn at_instant(&self, alloc: Global, t: u64) -> Result<Object, NoMemory>
+        ensures { IfOk result (λ o. o ≡ row_at_instant t self.now) }
+    {
+        self.chain.version_at(alloc, &self.newest, t)
+    }
+
+    /// The object as the transaction of the caller, which began at `start`, sees it.
+    pub fn seen(&self, alloc: Global, caller: u64, start: u64) -> Result<Object, NoMemory>
+        ensures { IfOk result (λ o. o ≡ seen caller start self.now) }
+    {
+        if self.is_own(caller) {
+            return self.newest.copy();
+        }
+        self.at_instant(alloc, start)
+    }
+
+    /// What the object was at an instant, without its parts. It takes no memory.
+    pub fn outline_at(&self, t: u64) -> Outline
+        ensures { result ≡ outline_of (row_at_instant t self.now) }
+    {
+        let undone = self.chain.count_after(t);
+        let mut outline = Outline::of(&self.newest);
+        for i in 0..undone {
+            outline = outline.after(self.chain.delta(i));
+        }
+        outline
+    }
+
+    /// What the object is to the caller's transaction, without its parts. It takes no memory.
+    pub fn outline_seen(&self, caller: u64, start: u64) -> Outline
+        ensures { result ≡ outline_of (seen caller start self.now) }
+    {
+        if self.is_own(caller) {
+            return Outline::of(&self.newest);
+        }
+        self.outline_at(start)
+    }
+
+    /// Keeps the object as it is before the first write of the caller's transaction, and says whether this is the first.
+    /// Without memory nothing changes.
+    pub fn begin(&mut self, alloc: Global, caller: u64, start: u64) -> Result<bool, NoMemory>
+        ensures ok { OnOk result (self.new ≡ begun_row caller start self.old) }
+        ensures first { IfOk result (λ first. first ≡ is_none self.old.writing) }
         ensures err { OnErr result (self.new ≡ self.old) }
     {
-        reserve_one(&mut self.committed)?;
-        self.draft = Some(draft);
+        if self.writing.is_some() {
+            return Ok(false);
+        }
+        let former = self.newest.copy()?;
+        let writing = Box::new(
+            alloc,
+            Writing {
+                caller,
+                start,
+                former,
+            },
+        )?;
+        self.writing = Some(writing);
+        Ok(true)
+    }
+
+    /// Takes a beginning back that no write followed. `first` says whether it was the first.
+    pub fn cancel(&mut self, first: bool)
+        ensures newest { self.new.newest ≡ self.old.newest }
+        ensures chain { self.new.chain ≡ self.old.chain }
+        ensures writing { self.new.writing ≡ (if first then None else self.old.writing) }
+    {
+        if first {
+            self.writing = None;
+        }
+    }
+
+    /// Does the write of the caller's transaction on this object alone, which is touched by no other write. Without
+    /// memory nothing changes.
+    pub fn write(
+        &mut self,
+        alloc: Global,
+        caller: u64,
+        start: u64,
+        x: Oid,
+        op: &Op,
+    ) -> Result<(), NoMemory>
+        requires touched { IsTrue (is_touched op.now x) }
+        requires possible { IsTrue (is_possible op.now x self.old.newest) }
+        requires alone { joined op.now ≡ None }
+        ensures ok { OnOk result (self.new ≡ written_row caller start op.now x self.old) }
+        ensures err { OnErr result (self.new ≡ self.old) }
+    {
+        let first = self.begin(alloc, caller, start)?;
+        let done = self.change(alloc, x, op);
+        if done.is_err() {
+            self.cancel(first);
+        }
+        done
+    }
+
+    /// Changes the object, and puts what undoes this in front of its deltas. Without memory nothing changes.
+    fn change(&mut self, alloc: Global, x: Oid, op: &Op) -> Result<(), NoMemory>
+        requires touched { IsTrue (is_touched op.now x) }
+        requires possible { IsTrue (is_possible op.now x self.old.newest) }
+        requires alone { joined op.now ≡ None }
+        ensures ok { OnOk result (self.new ≡ changed_row op.now x self.old) }
+        ensures err { OnErr result (self.new ≡ self.old) }
+    {
+        self.chain.reserve(alloc, 1)?;
+        let deltas = change(alloc, x, &mut self.newest, op)?;
+        push(&mut self.chain, deltas);
         Ok(())
     }
 
-    /// Drops the draft, if there is one.
-    pub fn drop_draft(&mut self)
-        ensures { self.new ≡ record { committed = self.old.committed; draft = None } }
-    {
-        self.draft = None;
-    }
-
-    /// Gives the name this value in the draft. A draft of a dead object stays as it is. Where memory is wanting
-    /// nothing changes.
-    pub fn set_in_draft(&mut self, name: Name, value: Value) -> Result<(), NoMemory>
-        requires { IsSome self.old.draft }
-        ensures ok { OnOk result (self.new ≡ record { committed = self.old.committed; draft = draft_with name value self.old.draft }) }
-        ensures err { OnErr result (self.new ≡ self.old) }
-    {
-        match &mut self.draft {
-            Some(draft) => draft.set(name, value),
-            None => unreachable!(),
-        }
-    }
-
-    /// Makes the draft the newest version, under this timestamp, if there is a draft.
+    /// Makes the writes of the open transaction a commit with this timestamp. It takes no memory.
     pub fn commit(&mut self, ts: u64)
-        ensures { self.new ≡ committed_as ts self.old.committed self.old.draft }
+        requires { MayCommit ts self.old }
+        ensures { self.new ≡ committed_row ts self.old }
     {
-        if let Some(draft) = self.draft.take() {
-            let object = draft.into_object();
-            self.committed.push_reserved(Version { ts, object });
+        if self.writing.is_some() {
+            self.chain.stamp(ts);
+            self.writing = None;
+        }
+    }
+
+    /// Takes the writes of the open transaction back: the object is again the one that was kept. It takes no memory.
+    pub fn abort(&mut self)
+        ensures { self.new ≡ aborted_row self.old }
+    {
+        if let Some(writing) = self.writing.take() {
+            let Writing { former, .. } = Box::into_inner(writing);
+            self.newest = former;
+            self.chain.drop_open();
         }
     }
 }
 
-/// Makes room for one more version: for the first one no more than that, since most objects have one alone.
-fn reserve_one(versions: &mut Vec<Version>) -> Result<(), NoMemory>
-    ensures same { versions.new.items ≡ versions.old.items }
-    ensures room { OnOk result (vec_len versions.new < vec_capacity versions.new) }
+/// Puts the deltas of a pair in front, the older first.
+pub(crate) fn push(chain: &mut Chain<GraphUndo>, deltas: DeltaPair)
+    requires { delta_count deltas ≤ chain.old.room }
+    ensures { chain.new.entries ≡ pushed deltas chain.old.entries }
 {
-    if versions.is_empty() {
-        versions.reserve_exact(1)
-    } else {
-        versions.reserve(1)
-    }
+    let DeltaPair { first, second } = deltas;
+    push_some(chain, first);
+    push_some(chain, second);
 }
 
-/// Commits the row of each listed vertex under the timestamp. A vertex's row has its number less the base.
-pub fn commit_rows(rows: &mut Vec<Row>, base: u64, vertices: &[u64], ts: u64)
-    requires { IsTrue (list_all (λ v. nat_le base v && nat_lt (v - base) (length rows.old.items)) vertices.now) }
-    ensures { rows.new.items ≡ commit_listed ts base vertices.now rows.old.items }
+fn push_some(chain: &mut Chain<GraphUndo>, delta: Option<Delta>)
+    requires { count_of delta ≤ chain.old.room }
+    ensures entries { chain.new.entries ≡ push_some delta chain.old.entries }
+    ensures room { chain.old.room ≤ chain.new.room + count_of delta }
 {
-    for vertex in vertices {
-        rows[(*vertex - base) as usize].commit(ts);
-    }
-}
-
-/// The object of the newest version below the timestamp. It looks at the versions from there on, and no others.
-fn newest_below(versions: &[Version], ts: u64) -> Option<&Object>
-    ensures { unwrap_or (option_copied result) Object.Dead ≡ object_below ts versions.now }
-{
-    let mut count = versions.len();
-    while count > 0 {
-        let version = &versions[count - 1];
-        if version.ts < ts {
-            return Some(&version.object);
-        }
-        count -= 1;
-    }
-    None
-}
-
-/// Gives the name this value among the properties of the object, if it is alive. A value that no object keeps takes the
-/// property away.
-pub(crate) fn set_property(object: &mut Object, name: Name, value: Value) -> Result<(), NoMemory>
-    ensures ok { OnOk result (object.new ≡ with_property name value object.old) }
-    ensures err { OnErr result (object.new ≡ object.old) }
-{
-    match object {
-        Object::Dead => Ok(()),
-        Object::Vertex(vertex) => {
-            vertex.props.set(name, value)?;
-            Ok(())
-        }
-        Object::Edge(edge) => {
-            edge.props.set(name, value)?;
-            Ok(())
-        }
+    if let Some(delta) = delta {
+        chain.push_reserved(delta);
     }
 }

@@ -1,7 +1,8 @@
 use crate::Core;
 use std::alloc::Global;
 use std::test::Fail;
-use world_model::{Answer, Ask, Event, Refused};
+use undo_delta::Ask;
+use world_model::{Answer, Event, Refused};
 
 fn refusal(answer: &Answer) -> Option<Refused> {
     match answer {

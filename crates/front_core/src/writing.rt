@@ -1,260 +1,310 @@
-ghost use Rattle.std.specs.Prelude.{◌≡◌, ◌∷◌, ◌++◌, ◌+◌, ◌<◌, [], ℕ, Some, IfOk, IfSome, OnOk, OnErr, IsTrue, IsNone, IsSome, length, unwrap_or, option_map};
+//! The one way of a write: its objects are there, nothing stands in its way, and it changes something; then what it
+//! needs is made ready, and it is done.
+ghost use Rattle.std.specs.Prelude.{◌≡◌, ℕ, [], Some, None, IfErr, IfOk, IsTrue, OnErr, OnOk, drop, not, unwrap_or};
 ghost use Rattle.std.specs.Option.{option_copied};
-ghost use Rattle.graph_value.specs.declared.id.Oid.TheVariants as oid;
-ghost use Rattle.graph_record.specs.Record.{empty_vertex};
 ghost use Rattle.graph_value.specs.Value.{same_value};
-ghost use Rattle.undo_delta.specs.Apply.{with_property};
-ghost use Rattle.undo_delta.specs.Change.{value_at, value_or_null, kept};
-ghost use Rattle.front_core.specs.Versions.{no_versions, seen_object, is_draft_of};
-ghost use Rattle.front_core.specs.Writes.{vertices_of, written_also};
-ghost use Rattle.txn_manager.specs.RunningList.{start_of};
-ghost use Rattle.graph_record.specs.Graph.{is_dead};
-ghost use Rattle.front_core.specs.Decision.{row_rival, set_decision, other_start_of, IsFree};
-ghost use Rattle.front_core.specs.Drafted.{drafted, written_once};
-ghost use Rattle.front_core.specs.Keeps.{row_at};
-ghost use Rattle.front_core.specs.Obeys.{ObeysAll};
+ghost use Rattle.graph_value.specs.declared.id.Oid.{Oid as AnyOid};
+ghost use Rattle.graph_value.specs.declared.id.Oid.TheVariants as oid;
+ghost use Rattle.graph_record.specs.Graph.{Graph};
+ghost use Rattle.graph_record.specs.declared.object.Object.TheVariants.{Dead};
+ghost use Rattle.undo_delta.specs.Change.{has_label, is_possible, is_without_edges, kept, value_at};
+ghost use Rattle.undo_delta.specs.Touch.{is_touched, touches};
+ghost use Rattle.undo_delta.specs.declared.ask.Ask.{Ask as AnyAsk};
+ghost use Rattle.world_model.specs.Asked.{named, op_of};
+ghost use Rattle.world_model.specs.Op.{changes};
+ghost use Rattle.world_model.specs.Refusals.{conflict, has_edges, id_end, missing, write_refusal};
+ghost use Rattle.world_model.specs.Step.{refused, step, written_world};
+ghost use Rattle.world_model.specs.World.{World, Txn, rival_at, view_of};
+ghost use Rattle.front_core.specs.Books.{Noted, place_in};
+ghost use Rattle.front_core.specs.Keeps.{Keeps, KeepsSome, Obeys, ObeysAll};
+ghost use Rattle.front_core.specs.Objects.{Has, Rewritten, Unmoved, row_at, unwritten};
+ghost use Rattle.front_core.specs.Opened.{Allowed, Asked, IsAsked, IsReady, MayWrite, Opened};
 
 use crate::NoMemory;
-use crate::decision::Decision;
-use crate::reads::copied;
-use crate::row::{Row, set_property};
-use crate::state::Core;
-use crate::version::Draft;
-use crate::writes::Writes;
-use graph_record::{Object, VertexRecord};
-use graph_value::{Name, Oid, Value, VertexId};
+use crate::effects::{has_label, has_value, is_without_edges, named, wrote};
+use crate::state::State;
+use graph_record::Object;
+use graph_value::{EdgeId, Name, Oid, Value, VertexId};
 use std::alloc::Global;
-use txn_manager::{Rival, rival};
-use undo_delta::is_kept_value;
-use world_model::{Answer, Ask, Event, ID_END, Refused, Wrote};
+use txn_manager::Rival;
+use undo_delta::{Ask, Op, is_kept_value};
+use world_model::{Answer, Event, ID_END, Refused, When, Wrote};
 
-impl Core {
-    /// Does the write that the caller asks for.
-    pub(crate) fn write(&mut self, alloc: Global, caller: u64, ask: Ask) -> Answer
-        ensures { ObeysAll self.old self.new (record { caller = caller; event = Event.Write ask; reply = result }) }
+impl State {
+    /// Does what the caller asks for.
+    pub fn write(&mut self, alloc: Global, caller: u64, ask: Ask) -> Answer
+        requires { KeepsSome self.old }
+        ensures { ObeysAll self.old self.new
+            (record { caller = caller; event = Event.Write ask; reply = result }) }
     {
-        let Some(start) = self.start_of(caller) else {
-            return Answer::Refused(Refused::NoTxn);
-        };
-        match ask {
-            Ask::CreateVertex => self.create_vertex(alloc, caller, start),
-            Ask::SetVertexProp(vertex, name, value) => {
-                self.set_vertex(alloc, caller, start, vertex, name, value)
+        match self.ready(caller, &ask) {
+            Ok((place, start)) => {
+                let op = self.op_of(caller, start, ask);
+                self.write_op(alloc, caller, start, place, &op)
             }
-            // No line makes an edge yet, so none is there.
-            Ask::SetEdgeProp(edge, _, _) => Answer::Refused(Refused::Missing(Oid::Edge(edge))),
+            Err(why) => Answer::Refused(why),
         }
     }
 
-    /// The number that the vertex counter stands at.
-    fn next_vertex(&self) -> u64
-        ensures { result ≡ self.now.first + length self.now.rows }
+    /// Where the caller's transaction stands and when it began, where it has one that sees what the write names.
+    fn ready(&self, caller: u64, ask: &Ask) -> Result<(usize, u64), Refused>
+        ensures placed { IfOk result (λ r. place_in self.now.transactions.txns caller ≡ Some r.0) }
+        ensures seen { IfOk result (λ r. (w : World) → Keeps self.now w →
+            IsReady self.now w caller ask.now r.1) }
+        ensures refused { IfErr result (λ why. (w : World) → Keeps self.now w →
+            step w caller (Event.Write ask.now) ≡ refused w why) }
     {
-        self.first + self.rows.len() as u64
-    }
-
-    fn create_vertex(&mut self, alloc: Global, caller: u64, start: u64) -> Answer
-        requires { start_of self.old.transactions.running caller ≡ Some start }
-        ensures { ObeysAll self.old self.new (record { caller = caller; event = Event.Write Ask.CreateVertex; reply = result }) }
-    {
-        let vertex = self.next_vertex();
-        if vertex >= ID_END {
-            return Answer::Refused(Refused::IdEnd);
-        }
-        match draft_new(alloc, &mut self.rows, &mut self.writes, caller, vertex) {
-            Ok(()) => Answer::Wrote(Wrote::Vertex(VertexId(vertex))),
-            Err(_) => Answer::Refused(Refused::NoMemory),
-        }
-    }
-
-    fn set_vertex(
-        &mut self,
-        alloc: Global,
-        caller: u64,
-        start: u64,
-        vertex: VertexId,
-        name: Name,
-        value: Value,
-    ) -> Answer
-        requires { start_of self.old.transactions.running caller ≡ Some start }
-        ensures { ObeysAll self.old self.new (record { caller = caller; event = Event.Write (Ask.SetVertexProp vertex name value); reply = result }) }
-    {
-        let Some(at) = self.place(vertex) else {
-            return Answer::Refused(Refused::Missing(Oid::Vertex(vertex)));
+        let Some(place) = self.transactions.find(caller) else {
+            return Err(Refused::NoTxn);
         };
-        match self.decide(caller, start, vertex, &name, &value) {
-            Decision::Refuse(why) => Answer::Refused(why),
-            Decision::Unchanged => Answer::Wrote(Wrote::Unchanged),
-            Decision::Set => self.set_draft(alloc, caller, start, vertex, at, name, value),
+        let start = self.transactions.at(place).start;
+        match self.missing(caller, start, ask) {
+            Some(why) => Err(why),
+            None => Ok((place, start)),
         }
     }
 
-    /// Sets the property in the row at this place.
-    fn set_draft(
-        &mut self,
-        alloc: Global,
-        caller: u64,
-        start: u64,
-        vertex: VertexId,
-        at: usize,
-        name: Name,
-        value: Value,
-    ) -> Answer
-        requires open_txn { start_of self.old.transactions.running caller ≡ Some start }
-        requires placed { at < length self.old.rows }
-        requires numbered { vertex.0 ≡ self.old.first + at }
-        requires decided { set_decision self.old.transactions.running caller start vertex name value (row_at self.old (oid.Vertex vertex)) ≡ Decision.Set }
-        ensures { ObeysAll self.old self.new (record { caller = caller; event = Event.Write (Ask.SetVertexProp vertex name value); reply = result }) }
+    /// The first of the objects that a write names which isn't in the caller's view.
+    fn missing(&self, caller: u64, start: u64, ask: &Ask) -> Option<Refused>
+        ensures { (w : World) (p : Txn) → Opened self.now w caller start p →
+            result ≡ missing (view_of w p) (named ask.now) }
     {
-        let row = &mut self.rows[at];
-        match draft_set(
-            alloc,
-            row,
-            &mut self.writes,
-            caller,
-            start,
-            vertex.0,
-            name,
-            value,
-        ) {
-            Ok(()) => Answer::Wrote(Wrote::Done),
+        let mut i = 0;
+        while let Some(x) = named(ask, i) {
+            if self.outline(caller, start, x, When::Own).is_absent() {
+                return Some(Refused::Missing(x));
+            }
+            i += 1;
+        }
+        None
+    }
+
+    /// The write that is asked for: with the number that a created object gets, and the ends that a deleted edge has.
+    fn op_of(&self, caller: u64, start: u64, ask: Ask) -> Op
+        ensures { (w : World) (p : Txn) → Opened self.now w caller start p →
+            result ≡ op_of w (view_of w p) ask }
+    {
+        match ask {
+            Ask::CreateVertex => Op::CreateVertex(VertexId(self.objects.vertices.next())),
+            Ask::DeleteVertex(v) => Op::DeleteVertex(v),
+            Ask::AddLabel(v, name) => Op::AddLabel(v, name),
+            Ask::RemoveLabel(v, name) => Op::RemoveLabel(v, name),
+            Ask::SetVertexProp(v, name, value) => Op::SetVertexProp(v, name, value),
+            Ask::CreateEdge { from, kind, to } => Op::CreateEdge {
+                id: EdgeId(self.objects.edges.next()),
+                from,
+                kind,
+                to,
+            },
+            Ask::DeleteEdge(id) => {
+                let outline = self.outline(caller, start, Oid::Edge(id), When::Own);
+                let (from, to) = outline.ends();
+                Op::DeleteEdge { id, from, to }
+            }
+            Ask::SetEdgeProp(e, name, value) => Op::SetEdgeProp(e, name, value),
+        }
+    }
+
+    /// Does the write, whose named objects are there.
+    fn write_op(&mut self, alloc: Global, caller: u64, start: u64, place: usize, op: &Op) -> Answer
+        requires placed { place_in self.old.transactions.txns caller ≡ Some place }
+        requires opened { IsAsked self.old caller start op.now }
+        ensures { (w : World) (p : Txn) (ask : AnyAsk) → Opened self.old w caller start p →
+            Asked w p ask op.now → Obeys w self.new
+            (record { caller = caller; event = Event.Write ask; reply = result }) }
+    {
+        if let Some(why) = self.refusal(caller, start, op) {
+            return Answer::Refused(why);
+        }
+        if !self.changes(op) {
+            return Answer::Wrote(Wrote::Unchanged);
+        }
+        match self.perform(alloc, caller, start, place, op) {
+            Ok(()) => Answer::Wrote(wrote(op)),
             Err(_) => Answer::Refused(Refused::NoMemory),
         }
     }
 
-    /// What is found of setting the property, before anything changes.
-    fn decide(
-        &self,
-        caller: u64,
-        start: u64,
-        vertex: VertexId,
-        name: &Name,
-        value: &Value,
-    ) -> Decision
-        ensures { result ≡ set_decision self.now.transactions.running caller start vertex name.now value.now (row_at self.now (oid.Vertex vertex)) }
+    /// Why the write is refused, whose named objects are there.
+    fn refusal(&self, caller: u64, start: u64, op: &Op) -> Option<Refused>
+        ensures { (w : World) (p : Txn) (ask : AnyAsk) → Opened self.now w caller start p →
+            Asked w p ask op.now →
+            result ≡ write_refusal w p ask }
     {
-        let x = Oid::Vertex(vertex);
-        let object = self.seen(caller, start, x);
-        if is_absent(object) {
-            return Decision::Refuse(Refused::Missing(x));
+        if let Some(why) = self.conflict(caller, start, op) {
+            return Some(why);
         }
-        if let Some(rival) = self.rival_at(caller, start, x) {
-            return Decision::Refuse(Refused::Conflict(x, rival));
+        if let Some(why) = self.has_edges(op) {
+            return Some(why);
         }
-        if has_value(object, name, value) {
-            Decision::Unchanged
-        } else {
-            Decision::Set
-        }
+        id_end(op)
     }
 
-    /// Who stands in the way of the caller's write to the object.
-    fn rival_at(&self, caller: u64, start: u64, x: Oid) -> Option<Rival>
-        ensures { result ≡ row_rival self.now.transactions.running caller start (row_at self.now x) }
+    /// The first of the objects that the write touches which another transaction has written.
+    fn conflict(&self, caller: u64, start: u64, op: &Op) -> Option<Refused>
+        ensures { (w : World) (p : Txn) → Opened self.now w caller start p →
+            result ≡ conflict w p (touches op.now) }
     {
-        match self.row(x) {
-            Some(row) => rival(
-                start,
-                self.other_start(caller, row.writer()),
-                row.newest_commit(),
-            ),
+        let mut i = 0;
+        while let Some(x) = op.touched(i) {
+            if let Some(rival) = self.rival(caller, start, x) {
+                return Some(Refused::Conflict(x, rival));
+            }
+            i += 1;
+        }
+        None
+    }
+
+    /// Who stands in the way of a write of the object.
+    fn rival(&self, caller: u64, start: u64, x: Oid) -> Option<Rival>
+        ensures { (w : World) (p : Txn) → Opened self.now w caller start p →
+            result ≡ rival_at w p x }
+    {
+        match self.objects.row(x) {
+            Some(row) => row.rival(caller, start),
             None => None,
         }
     }
 
-    /// When the transaction of the row's writer began, where that is another caller.
-    fn other_start(&self, caller: u64, writer: Option<u64>) -> Option<u64>
-        ensures { result ≡ other_start_of self.now.transactions.running caller writer }
+    /// A vertex that would be deleted has edges. No other transaction has written it.
+    fn has_edges(&self, op: &Op) -> Option<Refused>
+        ensures { (w : World) (caller start : ℕ) (p : Txn) (ask : AnyAsk) →
+            Opened self.now w caller start p →
+            Asked w p ask op.now → conflict w p (touches op.now) ≡ None →
+            result ≡ has_edges (view_of w p) ask }
     {
-        match writer {
-            Some(writer) if writer != caller => self.start_of(writer),
+        match op {
+            Op::DeleteVertex(v) if !self.is_without_edges(*v) => Some(Refused::HasEdges(*v)),
             _ => None,
         }
     }
-}
 
-/// Whether there is no such object.
-fn is_absent(object: Option<&Object>) -> bool
-    ensures { result ≡ is_dead (unwrap_or (option_copied object.entry) Object.Dead) }
-{
-    matches!(object, None | Some(Object::Dead))
-}
-
-/// Whether the object has under the name what a property keeps of the value: null stands for what none keeps, and for
-/// a property that isn't there.
-fn has_value(object: Option<&Object>, name: &Name, value: &Value) -> bool
-    ensures { result ≡ same_value (value_at name.now (unwrap_or (option_copied object.entry) Object.Dead)) (kept value.now) }
-{
-    let found = match object {
-        Some(Object::Vertex(vertex)) => vertex.props.get(name.as_str()),
-        Some(Object::Edge(edge)) => edge.props.get(name.as_str()),
-        _ => None,
-    };
-    is_kept(found, value)
-}
-
-/// Whether this is what a property keeps of the value; none stands for null.
-fn is_kept(found: Option<&Value>, value: &Value) -> bool
-    ensures { result ≡ same_value (value_or_null (option_copied found.entry)) (kept value.now) }
-{
-    let null = Value::Null;
-    match found {
-        Some(found) => is_kept_value(found, value),
-        None => is_kept_value(&null, value),
-    }
-}
-
-/// Adds the row of a new vertex, with the caller's draft of it. Where memory is wanting nothing changes.
-fn draft_new(
-    alloc: Global,
-    rows: &mut Vec<Row>,
-    writes: &mut Writes,
-    caller: u64,
-    vertex: u64,
-) -> Result<(), NoMemory>
-    ensures row { OnOk result (rows.new.items ≡ rows.old.items ++ drafted no_versions caller (Object.Vertex empty_vertex) ∷ []) }
-    ensures listed { OnOk result ((d : ℕ) → vertices_of writes.new d ≡ written_also writes.old caller vertex d) }
-    ensures rows_stay { OnErr result (rows.new.items ≡ rows.old.items) }
-    ensures writes_stay { OnErr result (writes.new ≡ writes.old) }
-{
-    let mut row = Row::new(alloc);
-    let object = Object::Vertex(VertexRecord::empty(alloc));
-    row.begin_draft(Draft::new(alloc, caller, object)?)?;
-    rows.reserve(1)?;
-    writes.add(alloc, caller, vertex)?;
-    rows.push_reserved(row);
-    Ok(())
-}
-
-/// Sets the property in the caller's draft of the row, which begins with what the caller sees where there is none.
-/// Where memory is wanting nothing changes.
-fn draft_set(
-    alloc: Global,
-    row: &mut Row,
-    writes: &mut Writes,
-    caller: u64,
-    start: u64,
-    vertex: u64,
-    name: Name,
-    value: Value,
-) -> Result<(), NoMemory>
-    requires { IsFree caller row.old.draft }
-    ensures row { OnOk result (row.new ≡ drafted row.old caller (with_property name value (seen_object caller start row.old))) }
-    ensures listed { OnOk result ((d : ℕ) → vertices_of writes.new d ≡ written_once row.old.draft writes.old caller vertex d) }
-    ensures row_stays { OnErr result (row.new ≡ row.old) }
-    ensures writes_stay { OnErr result (writes.new ≡ writes.old) }
-{
-    if row.writer().is_some() {
-        return row.set_in_draft(name, value);
-    }
-    let mut object = copied(row.seen(caller, start))?;
-    set_property(&mut object, name, value)?;
-    row.begin_draft(Draft::new(alloc, caller, object)?)?;
-    match writes.add(alloc, caller, vertex) {
-        Ok(()) => Ok(()),
-        Err(error) => {
-            row.drop_draft();
-            Err(error)
+    /// The object with all writes that were done on it.
+    fn newest(&self, x: Oid) -> Option<&Object>
+        ensures { unwrap_or (option_copied result) Dead ≡ (row_at self.now.objects x).newest }
+    {
+        match self.objects.row(x) {
+            Some(row) => Some(row.newest()),
+            None => None,
         }
+    }
+
+    /// Whether the write would change anything. No other transaction has written what it touches.
+    fn changes(&self, op: &Op) -> bool
+        ensures { (w : World) (caller start : ℕ) (p : Txn) → Opened self.now w caller start p →
+            conflict w p (touches op.now) ≡ None → result ≡ changes op.now (view_of w p) }
+    {
+        match op {
+            Op::AddLabel(v, name) => !self.has_label(*v, name),
+            Op::RemoveLabel(v, name) => self.has_label(*v, name),
+            Op::SetVertexProp(v, name, value) => self.is_set(Oid::Vertex(*v), name, value),
+            Op::SetEdgeProp(e, name, value) => self.is_set(Oid::Edge(*e), name, value),
+            _ => true,
+        }
+    }
+
+    /// Whether the vertex has no edges.
+    fn is_without_edges(&self, v: VertexId) -> bool
+        ensures { result ≡ is_without_edges (row_at self.now.objects (oid.Vertex v)).newest }
+    {
+        match self.newest(Oid::Vertex(v)) {
+            Some(object) => is_without_edges(object),
+            None => false,
+        }
+    }
+
+    /// Whether the vertex has the label.
+    fn has_label(&self, v: VertexId, name: &Name) -> bool
+        ensures { result ≡ has_label name.now (row_at self.now.objects (oid.Vertex v)).newest }
+    {
+        match self.newest(Oid::Vertex(v)) {
+            Some(object) => has_label(object, name),
+            None => false,
+        }
+    }
+
+    /// Whether the property would get another value.
+    fn is_set(&self, x: Oid, name: &Name, value: &Value) -> bool
+        ensures { result
+            ≡ not (same_value (value_at name.now (row_at self.now.objects x).newest) (kept value.now)) }
+    {
+        match self.newest(x) {
+            Some(object) => !has_value(object, name, value),
+            None => !is_kept_value(&Value::Null, value),
+        }
+    }
+
+    /// Does a write that is allowed and changes something. Without memory the same world is kept.
+    fn perform(
+        &mut self,
+        alloc: Global,
+        caller: u64,
+        start: u64,
+        place: usize,
+        op: &Op,
+    ) -> Result<(), NoMemory>
+        requires placed { place_in self.old.transactions.txns caller ≡ Some place }
+        requires allowed { MayWrite self.old caller start op.now }
+        ensures ok { OnOk result ((w : World) (p : Txn) (ask : AnyAsk) →
+            Opened self.old w caller start p →
+            Asked w p ask op.now → Allowed w p ask op.now →
+            Keeps self.new (written_world w caller ask op.now)) }
+        ensures err { OnErr result ((w : World) → Keeps self.old w → Keeps self.new w) }
+    {
+        self.objects.make(alloc, op)?;
+        let done = self.write_noted(alloc, caller, start, place, op, 0);
+        if done.is_err() {
+            self.objects.unmake(op);
+        }
+        done
+    }
+
+    /// Notes each object that the write touches, from the i-th on, as written by the caller's transaction, if it isn't
+    /// yet, and does the write. Without memory nothing changes.
+    fn write_noted(
+        &mut self,
+        alloc: Global,
+        caller: u64,
+        start: u64,
+        place: usize,
+        op: &Op,
+        i: usize,
+    ) -> Result<(), NoMemory>
+        requires placed { place_in self.old.transactions.txns caller ≡ Some place }
+        requires there { (x : AnyOid) → IsTrue (is_touched op.now x) → Has self.old.objects x }
+        requires possible { (x : AnyOid) → IsTrue (is_touched op.now x) →
+            IsTrue (is_possible op.now x (row_at self.old.objects x).newest) }
+        ensures rows { OnOk result (Rewritten self.old.objects self.new.objects
+            caller start op.now) }
+        ensures noted { OnOk result (Noted self.old.transactions self.new.transactions caller
+            (unwritten self.old.objects (drop i (touches op.now)))) }
+        ensures rows_stay { OnErr result (Unmoved self.old.objects self.new.objects) }
+        ensures book_stays { OnErr result (Noted self.old.transactions self.new.transactions
+            caller []) }
+    {
+        let Some(x) = op.touched(i) else {
+            return self.objects.write(alloc, caller, start, op);
+        };
+        if self.objects.is_written(x) {
+            return self.write_noted(alloc, caller, start, place, op, i + 1);
+        }
+        self.transactions.note(caller, place, x)?;
+        let done = self.write_noted(alloc, caller, start, place, op, i + 1);
+        if done.is_err() {
+            self.transactions.forget(caller, place);
+        }
+        done
+    }
+}
+
+/// No number is left for the object that the write would make.
+fn id_end(op: &Op) -> Option<Refused>
+    ensures { (w : World) (g : Graph) (ask : AnyAsk) → op.now ≡ op_of w g ask →
+        result ≡ id_end w ask }
+{
+    match op {
+        Op::CreateVertex(v) if v.0 >= ID_END => Some(Refused::IdEnd),
+        Op::CreateEdge { id, .. } if id.0 >= ID_END => Some(Refused::IdEnd),
+        _ => None,
     }
 }

@@ -5,7 +5,7 @@ use Rattle.world_model.specs.World.{World, start_world}
 use Rattle.world_model.specs.Step.{step}
 use Rattle.world_model.specs.History.{Entry, IsAnswered, run, world_after, no_memory}
 use Rattle.world_model.proofs.Histories.{run-append}
-use Rattle.front_core.specs.Keeps.{Kept, StandsFor, first_start}
+use Rattle.front_core.specs.Keeps.{first_start}
 use Rattle.graph_shell.specs.declared.request.Request.{Request}
 use Rattle.graph_shell.specs.Request.{request_of, is_skipped}
 use Rattle.graph_shell.specs.Reply.{reply_text}
@@ -27,11 +27,11 @@ chosen w r reply (inr none) = record {
   same = none.0 ∙ ap (λ b. cond b no_memory (step w r.caller r.event).reply) (sym none.1);
 }
 
-pub answers_request : (core : Kept) (line : List ℕ) (r : Request) (reply : Answer) (text : List ℕ) (es : List Entry) →
-    IsAnswered (now es) (entry_of r reply) → StandsFor first_start core (es ++ entry_of r reply ∷ []) →
+pub answers_request : (Stands : List Entry → Type 0) (line : List ℕ) (r : Request) (reply : Answer) (text : List ℕ) (es : List Entry) →
+    IsAnswered (now es) (entry_of r reply) → Stands (es ++ entry_of r reply ∷ []) →
     is_skipped line ≡ false → request_of line ≡ Some r → text ≡ reply_text r.caller (asked_by r.event) reply →
-    AnswersLine (λ wanting w. answer_short wanting w line) core text es
-answers_request core line r reply text es answered stands kept is printed =
+    AnswersLine (λ wanting w. answer_short wanting w line) Stands text es
+answers_request Stands line r reply text es answered stands kept is printed =
     let w : World = now es in
     let choice : Chosen w r reply = chosen w r reply answered in
     let whole : answer_short choice.wanting w line ≡ answer_request choice.wanting w (Some r) =

@@ -5,7 +5,7 @@ use Rattle.std.specs.Str.{IsAscii, IsUtf8}
 use Rattle.std.proofs.lemmas.Str.{IsUtf8-from_ascii}
 use Rattle.std.proofs.lemmas.Str.Ascii.{IsAscii-nil, IsAscii-cons}
 use Rattle.std.proofs.lemmas.Bool.Decides.{nat_tests}
-use Rattle.graph_shell.specs.Request.{begins_name, continues_name, is_name}
+use Rattle.graph_shell.specs.Words.{begins_name, continues_name, is_name}
 
 begins_ascii : (c : ℕ) → begins_name c ≡ true → c < 128
 begins_ascii c h = grind (arith, nat_tests)

@@ -1,5 +1,5 @@
 -- The digits of a word, as std's words on text and `parse` have them.
-use Rattle.std.proofs.Common.{◌≡◌, ℕ, ◌*◌, ◌+◌, ◌-◌, ◌<◌, ◌^◌, true, cond, nat_lt, List, [], ◌∷◌, length, get_or, Result, fold, Some, None, Ok, Err, refl, subst, arith, rules}
+use Rattle.std.proofs.Common.{◌≡◌, ℕ, ◌*◌, ◌+◌, ◌-◌, ◌<◌, ◌^◌, true, cond, nat_lt, List, [], ◌∷◌, length, Result, fold, Some, None, Ok, Err, refl, subst, arith, rules}
 use Rattle.std.specs.List.{list_all}
 use Rattle.std.specs.Char.{is_ascii_digit}
 use Rattle.std.specs.Str.{IsUtf8}
@@ -9,7 +9,7 @@ use Rattle.std.proofs.lemmas.Str.{IsUtf8-from_ascii}
 use Rattle.std.proofs.lemmas.Str.Parse.{IsNumeralModel, numerals_by_fold, parse_digits}
 use Rattle.std.proofs.lemmas.Fmt.{IsAscii-from_digits}
 use Rattle.std.proofs.lemmas.Bool.Decides.{nat_tests}
-use Rattle.graph_shell.specs.Request.{value_of, is_number, number_below, nonnegative_of, integer_of}
+use Rattle.graph_shell.specs.Words.{value_of, is_number, number_below}
 
 -- Digits stand for the same number here and to `parse`.
 pub own : IsNumeralModel (λ ds. list_all is_ascii_digit ds ≡ true) value_of
@@ -42,11 +42,3 @@ refused {E} limit word text r e low h same parses err =
     let none = OkIff-at_err r _ (value_of word) e (parse_digits own 64 word r (subst P same parses) (number_digits word h).0) err in
     let high : value_of word < 2 ^ 64 → ⊥ = λ below. none ((number_digits word h).1, below) in
     rw (number_below_at limit word h) (grind (arith, nat_tests))
-
--- Without a minus in front a word is read as a number.
-pub integer_plain : (word : List ℕ) → (0 < length word → get_or word 0 0 ≡ 45 → ⊥) → integer_of word ≡ nonnegative_of word
-unfolding integer_of nonnegative_of number_below
-integer_plain [] h = refl
-integer_plain (c ∷ cs) h =
-    let other : c ≡ 45 → ⊥ = h (omega arith) in
-    grind (arith, nat_tests)

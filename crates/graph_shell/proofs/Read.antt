@@ -1,200 +1,251 @@
 -- What is read as a request spells it.
-use Rattle.std.proofs.Common.{◌≡◌, ℕ, suc, zero, ◌+◌, ◌<◌, ◌≤◌, ◌^◌, ◌==◌, Bool, true, false, ◌&&◌, cond, nat_lt, List, [], ◌∷◌, length, get_or, Option, Some, None, option_map, option_and_then, ℤ, pos, negsuc, neg_ℤ, FitsSigned, w64, codes, refl, sym, ap, ◌∙◌, subst, arith}
+use Rattle.std.proofs.Common.{◌≡◌, ℕ, ◌^◌, ◌==◌, Bool, true, false, cond, List, [], ◌∷◌, ◌++◌, Option, Some, None, option_map, option_and_then, codes, inl, inr, refl, sym, ap, ◌∙◌, subst, arith}
 use Rattle.std.specs.List.{join_with_byte}
 use Rattle.std.specs.Str.{bytes_eq}
-use Rattle.std.specs.Fmt.{decimal, signed_decimal}
+use Rattle.std.specs.Fmt.{decimal}
 use Rattle.std.proofs.lemmas.Bool.Decides.{nat_tests}
-use Rattle.std.proofs.lemmas.Int.{ints}
-use Rattle.std.proofs.lemmas.Fmt.{decimal-digits_value}
-use Rattle.std.proofs.lemmas.Bool.{false≢true}
 use Rattle.std.proofs.lemmas.Option.{same_Some, none-some}
 use Rattle.std.proofs.lemmas.List.Splits.{join_with_byte-slice_split}
-use Rattle.std.proofs.lemmas.Slice.Eq.{bytes_eq-Decides}
+use Rattle.graph_value.specs.Id.{oid_text}
 use Rattle.graph_value.specs.declared.id.Oid.{Oid}
 use Rattle.graph_value.specs.declared.id.Oid.TheVariants as oid
+use Rattle.graph_value.specs.declared.value.Value.{Value}
+use Rattle.undo_delta.specs.declared.ask.Ask.TheVariants.{CreateVertex, AddLabel, RemoveLabel, CreateEdge}
 use Rattle.world_model.specs.declared.event.Event.{Event}
-use Rattle.world_model.specs.declared.event.Event.TheVariants.{Begin, Read, Write, Commit}
-use Rattle.world_model.specs.declared.event.Ask.TheVariants.{CreateVertex}
-use Rattle.world_model.specs.declared.event.When.TheVariants.{Own}
-use Rattle.graph_value.proofs.Levels.{int_level}
-use Rattle.graph_shell.specs.declared.request.Request.{Request}
-use Rattle.graph_value.specs.Id.{oid_text}
-use Rattle.graph_shell.specs.Request.{words_of, value_of, is_number, number_below, negative_of, nonnegative_of, integer_of, is_name, name_of, oid_of, plain_event, read_event, set_ask, set_event, event_of, request_from_words}
-use Rattle.graph_shell.specs.Spelling.{event_words, IsSpelledOid, IsSpelledEvent, HasSpelling, ReadIsSpelling}
-use Rattle.graph_shell.proofs.Numbers.{own, number_digits}
+use Rattle.world_model.specs.declared.event.Event.TheVariants.{Begin, Next, Read, Write, Commit, Abort, Mark}
+use Rattle.world_model.specs.declared.event.When.{When}
+use Rattle.world_model.specs.declared.event.Kind.{Kind}
+use Rattle.graph_shell.specs.Words.{words_of, in_front, cut, number_below, name_of, oid_of, vertex_of}
+use Rattle.graph_shell.specs.Values.{json_value}
+use Rattle.graph_shell.specs.Request.{plain_event, when_of, read_event, kind_of, next_after, next_of, next_event, delete_ask, delete_event, label_event, unlabel_event, edge_event, set_ask, property_event, set_event, worded_event, words_event, parted_event, event_of, request_of}
+use Rattle.graph_shell.specs.Spelling.{line_of, search_words, IsSpelledOid, IsSpelledName, IsSpelledSearch, IsEventLine, IsLineOf, ReadIsSpelling}
+use Rattle.graph_shell.proofs.Options.{bind_some, map_some, kept, chosen}
+use Rattle.graph_shell.proofs.ReadWords.{same_words, same_text, number_reads, name_reads, oid_reads, vertex_reads, when_reads, kind_reads}
 
-bind_some : {A B : Type 0} (o : Option A) (f : A → Option B) (y : B) → option_and_then f o ≡ Some y → (x : A) × (o ≡ Some x) × (f x ≡ Some y)
-bind_some None f y h = absurd (grind arith)
-bind_some (Some x) f y h = (x, refl, h)
+-- the words are those of an event: a line that has them is one of its lines
+abbrev AreWordsOf : List (List ℕ) → Event → Type 0
+AreWordsOf words event = (line : List ℕ) (caller : ℕ) → line ≡ line_of caller words → IsEventLine line caller event
 
-map_some : {A B : Type 0} (o : Option A) (f : A → B) (y : B) → option_map f o ≡ Some y → (x : A) × (o ≡ Some x) × (f x ≡ y)
-map_some None f y h = absurd (grind arith)
-map_some (Some x) f y h = (x, refl, grind arith)
+-- ONE WORD
 
--- which way a test went, where one way gives nothing
-kept : {A : Type 0} (b : Bool) (o : Option A) (y : A) → cond b o None ≡ Some y → (b ≡ true) × (o ≡ Some y)
-kept true o y h = (refl, h)
-kept false o y h = absurd (grind arith)
+line_by : (line : List ℕ) (caller : ℕ) (words words' : List (List ℕ)) → words ≡ words' → line ≡ line_of caller words → line ≡ line_of caller words'
+line_by line caller words words' same is = is ∙ ap (line_of caller) same
 
-passed : {A : Type 0} (b : Bool) (o : Option A) (y : A) → cond b None o ≡ Some y → (b ≡ false) × (o ≡ Some y)
-passed true o y h = absurd (grind arith)
-passed false o y h = (refl, h)
-
-lone_zero : (word : List ℕ) → is_number word ≡ true → get_or word 0 0 ≡ 48 → length word ≡ 1
-lone_zero [] h e = absurd (grind arith)
-lone_zero (c ∷ []) h e = refl
-lone_zero (c ∷ d ∷ ds) h e = absurd (grind (arith, nat_tests))
-
-number_reads : (limit : ℕ) (word : List ℕ) (n : ℕ) → limit ≤ 2 ^ 64 → number_below limit word ≡ Some n → (n < limit) × (word ≡ decimal n)
-unfolding number_below
-number_reads limit word n low h =
-    let first = bind_some _ (λ m. cond (nat_lt m limit) (Some m) None) n h in
-    let is = kept (is_number word) (Some (value_of word)) first.0 first.1 in
-    let below = kept (nat_lt first.0 limit) (Some first.0) n first.2 in
-    let value : value_of word ≡ n = grind arith in
-    let small : n < limit = grind (arith, nat_tests) in
-    let digits = number_digits word is.0 in
-    let text = decimal-digits_value own word digits.0 digits.1 (lone_zero word is.0) (omega arith) in
-    (small, sym text ∙ ap decimal value)
-
--- a negative integer, from the number behind its minus
-negated : (n : ℕ) (digits : List ℕ) (z : ℤ) → n < 2 ^ 63 + 1 → digits ≡ decimal n → 0 < n → neg_ℤ (pos n) ≡ z → FitsSigned w64 z × ((45 ∷ digits) ≡ signed_decimal z)
-negated zero digits z h text some e = absurd (omega arith)
-negated (suc m) digits z h text some e =
-    let P : ℤ → Type 0 = λ y. FitsSigned w64 y × ((45 ∷ digits) ≡ signed_decimal y) in
-    let fits : FitsSigned w64 (negsuc m) = omega (arith, ints) in
-    subst P e (fits, ap (λ ds. 45 ∷ ds) text)
-
-negative_reads : (digits : List ℕ) (z : ℤ) → negative_of digits ≡ Some z → FitsSigned w64 z × ((45 ∷ digits) ≡ signed_decimal z)
-unfolding negative_of
-negative_reads digits z h =
-    let first = bind_some (number_below (2 ^ 63 + 1) digits) (λ n. cond (n == 0) None (Some (neg_ℤ (pos n)))) z h in
-    let read = number_reads (2 ^ 63 + 1) digits first.0 (omega arith) first.1 in
-    let some = passed (first.0 == 0) (Some (neg_ℤ (pos first.0))) z first.2 in
-    let positive : 0 < first.0 = grind (arith, nat_tests) in
-    negated first.0 digits z read.0 read.1 positive (same_Some _ _ some.1)
-
-nonnegative_reads : (word : List ℕ) (z : ℤ) → nonnegative_of word ≡ Some z → FitsSigned w64 z × (word ≡ signed_decimal z)
-unfolding nonnegative_of
-nonnegative_reads word z h =
-    let first = map_some (number_below (2 ^ 63) word) pos z h in
-    let read = number_reads (2 ^ 63) word first.0 (omega arith) first.1 in
-    let P : ℤ → Type 0 = λ y. FitsSigned w64 y × (word ≡ signed_decimal y) in
-    let small : first.0 < 2 ^ 63 = read.0 in
-    let fits : FitsSigned w64 (pos first.0) = omega (arith, ints) in
-    subst P first.2 (fits, read.1)
-
-integer_by : (b : Bool) (c : ℕ) (cs : List ℕ) (z : ℤ) → (c == 45) ≡ b → cond b (negative_of cs) (nonnegative_of (c ∷ cs)) ≡ Some z → FitsSigned w64 z × ((c ∷ cs) ≡ signed_decimal z)
-integer_by true c cs z e h =
-    let minus : c ≡ 45 = grind (arith, nat_tests) in
-    let read = negative_reads cs z h in
-    (read.0, ap (λ x. x ∷ cs) minus ∙ read.1)
-integer_by false c cs z e h = nonnegative_reads (c ∷ cs) z h
-
-integer_reads : (word : List ℕ) (z : ℤ) → integer_of word ≡ Some z → FitsSigned w64 z × (word ≡ signed_decimal z)
-unfolding integer_of
-integer_reads [] z h = absurd (grind arith)
-integer_reads (c ∷ cs) z h = integer_by (c == 45) c cs z refl h
-
--- NAMES AND OBJECTS
-
-name_reads : (word name : List ℕ) → name_of word ≡ Some name → (is_name name ≡ true) × (word ≡ name)
-unfolding name_of
-name_reads word name h =
-    let is = kept (is_name word) (Some word) name h in
-    let same = same_Some _ _ is.1 in
-    (subst (λ (w : List ℕ). is_name w ≡ true) same is.0, same)
-
-oid_by : (vertex edge : Bool) (kind : ℕ) (digits : List ℕ) (n : ℕ) (x : Oid) → (kind == 118) ≡ vertex → (kind == 101) ≡ edge → n < 2 ^ 63 → digits ≡ decimal n → cond vertex (Some (oid.Vertex (record { 0 = n }))) (cond edge (Some (oid.Edge (record { 0 = n }))) None) ≡ Some x → IsSpelledOid x × ((kind ∷ digits) ≡ oid_text x)
-oid_by true edge kind digits n x v e h text is =
-    let letter : kind ≡ 118 = grind (arith, nat_tests) in
-    let P : Oid → Type 0 = λ y. IsSpelledOid y × ((kind ∷ digits) ≡ oid_text y) in
-    subst P (same_Some _ _ is) (h, ap (λ k. k ∷ digits) letter ∙ ap (λ ds. 118 ∷ ds) text)
-oid_by false true kind digits n x v e h text is =
-    let letter : kind ≡ 101 = grind (arith, nat_tests) in
-    let P : Oid → Type 0 = λ y. IsSpelledOid y × ((kind ∷ digits) ≡ oid_text y) in
-    subst P (same_Some _ _ is) (h, ap (λ k. k ∷ digits) letter ∙ ap (λ ds. 101 ∷ ds) text)
-oid_by false false kind digits n x v e h text is = absurd (none-some _ is)
-
-oid_reads : (word : List ℕ) (x : Oid) → oid_of word ≡ Some x → IsSpelledOid x × (word ≡ oid_text x)
-unfolding oid_of
-oid_reads [] x h = absurd (none-some _ h)
-oid_reads (kind ∷ digits) x h =
-    let first = bind_some (number_below (2 ^ 63) digits) (λ n. cond (kind == 118) (Some (oid.Vertex (record { 0 = n }))) (cond (kind == 101) (Some (oid.Edge (record { 0 = n }))) None)) x h in
-    let read = number_reads (2 ^ 63) digits first.0 (omega arith) first.1 in
-    oid_by (kind == 118) (kind == 101) kind digits first.0 x refl refl read.0 read.1 first.2
-
--- EVENTS
-
-same_text : (word text : List ℕ) → bytes_eq word text ≡ true → word ≡ text
-same_text word text h = (bytes_eq-Decides word text).0 h
-
-both : (a b : Bool) → (a && b) ≡ true → (a ≡ true) × (b ≡ true)
-both true b h = (refl, h)
-both false b h = absurd (false≢true h)
-
-abbrev IsSpeltBy : List (List ℕ) → Event → Type 0
-IsSpeltBy words event = IsSpelledEvent event × (words ≡ event_words event)
-
-plain_by : (a b d : Bool) (verb : List ℕ) (event : Event) → bytes_eq verb (codes "begin") ≡ a → bytes_eq verb (codes "vertex") ≡ b → bytes_eq verb (codes "commit") ≡ d → cond a (Some Begin) (cond b (Some (Write CreateVertex)) (cond d (Some Commit) None)) ≡ Some event → IsSpeltBy (verb ∷ []) event
-plain_by true b d verb event p q r h = subst (IsSpeltBy (verb ∷ [])) (same_Some _ _ h) (tt, ap (λ w. w ∷ []) (same_text verb _ p))
-plain_by false true d verb event p q r h = subst (IsSpeltBy (verb ∷ [])) (same_Some _ _ h) (tt, ap (λ w. w ∷ []) (same_text verb _ q))
-plain_by false false true verb event p q r h = subst (IsSpeltBy (verb ∷ [])) (same_Some _ _ h) (tt, ap (λ w. w ∷ []) (same_text verb _ r))
-plain_by false false false verb event p q r h = absurd (none-some _ h)
-
-plain_reads : (verb : List ℕ) (event : Event) → plain_event verb ≡ Some event → IsSpeltBy (verb ∷ []) event
+plain_reads : (verb : List ℕ) (event : Event) → plain_event verb ≡ Some event → AreWordsOf (verb ∷ []) event
 unfolding plain_event
-plain_reads verb event h = plain_by _ _ _ verb event refl refl refl h
+plain_reads verb event h = elim (chosen (bytes_eq verb (codes "begin")) (Some Begin) _ event h) [
+  | inl a ↦ subst (AreWordsOf (verb ∷ [])) (same_Some _ _ a.1) (λ line caller is. (tt, line_by line caller _ _ (ap (λ w. w ∷ []) (same_text verb _ a.0)) is))
+  | inr more ↦ elim (chosen (bytes_eq verb (codes "vertex")) (Some (Write CreateVertex)) _ event more.1) [
+    | inl a ↦ subst (AreWordsOf (verb ∷ [])) (same_Some _ _ a.1) (λ line caller is. (tt, line_by line caller _ _ (ap (λ w. w ∷ []) (same_text verb _ a.0)) is))
+    | inr more ↦ elim (chosen (bytes_eq verb (codes "commit")) (Some Commit) _ event more.1) [
+      | inl a ↦ subst (AreWordsOf (verb ∷ [])) (same_Some _ _ a.1) (λ line caller is. (tt, line_by line caller _ _ (ap (λ w. w ∷ []) (same_text verb _ a.0)) is))
+      | inr more ↦ elim (chosen (bytes_eq verb (codes "abort")) (Some Abort) _ event more.1) [
+        | inl a ↦ subst (AreWordsOf (verb ∷ [])) (same_Some _ _ a.1) (λ line caller is. (tt, line_by line caller _ _ (ap (λ w. w ∷ []) (same_text verb _ a.0)) is))
+        | inr more ↦ (let a = kept (bytes_eq verb (codes "mark")) (Some Mark) event more.1 in
+            subst (AreWordsOf (verb ∷ [])) (same_Some _ _ a.1) (λ line caller is. (tt, line_by line caller _ _ (ap (λ w. w ∷ []) (same_text verb _ a.0)) is)))
+      ]
+    ]
+  ]
+]
 
-same_words : {A : Type 0} (x y : A) (xs ys : List A) → x ≡ y → xs ≡ ys → (x ∷ xs) ≡ (y ∷ ys)
-same_words x y xs ys p q = rw (p, q) refl
+-- READS
 
-read_reads : (verb object when : List ℕ) (event : Event) → verb ≡ codes "read" → when ≡ codes "own" → read_event object ≡ Some event → IsSpeltBy (verb ∷ object ∷ when ∷ []) event
+read_reads : (verb : List ℕ) (words : List (List ℕ)) (event : Event) → verb ≡ codes "read" → read_event words ≡ Some event → AreWordsOf (verb ∷ words) event
 unfolding read_event
-read_reads verb object when event v w h =
-    let first = bind_some (oid_of object) (λ x. Some (Read x Own)) event h in
-    let read = oid_reads object first.0 first.1 in
-    let words : (verb ∷ object ∷ when ∷ []) ≡ event_words (Read first.0 Own) = same_words _ _ _ _ v (same_words _ _ _ _ read.1 (same_words _ _ [] [] w refl)) in
-    subst (IsSpeltBy (verb ∷ object ∷ when ∷ [])) (same_Some _ _ first.2) (read.0, words)
+read_reads verb [] event v h = absurd (none-some _ h)
+read_reads verb (object ∷ words) event v h =
+    let first = bind_some (oid_of object) (λ x. option_map (Read x) (when_of words)) event h in
+    let second = map_some (when_of words) (Read first.0) event first.2 in
+    let x = oid_reads object first.0 first.1 in
+    let when = when_reads words second.0 second.1 in
+    subst (AreWordsOf (verb ∷ object ∷ words)) second.2 (λ line caller is. ((x.0, when.0), line_by line caller _ _ (same_words _ _ _ _ v (same_words _ _ _ _ x.1 when.1)) is))
 
-set_by : (verb object property integer : List ℕ) (x : Oid) (name : List ℕ) (n : ℤ) → verb ≡ codes "set" → IsSpelledOid x × (object ≡ oid_text x) → (is_name name ≡ true) × (property ≡ name) → FitsSigned w64 n × (integer ≡ signed_decimal n) → IsSpeltBy (verb ∷ object ∷ property ∷ integer ∷ []) (Write (set_ask x name n))
-set_by verb object property integer (oid.Vertex id) name n v o p i = (rw (int_level n) (o.0, p.0, i.0), rw (v, o.1, p.1, i.1, int_level n) refl)
-set_by verb object property integer (oid.Edge id) name n v o p i = (rw (int_level n) (o.0, p.0, i.0), rw (v, o.1, p.1, i.1, int_level n) refl)
+-- the words behind the kind
+abbrev AreSearchOf : Kind → List (List ℕ) → Event → Type 0
+AreSearchOf kind words event = (after : Option ℕ) × (when : When) × IsSpelledSearch after when × (words ≡ search_words after when) × (Next kind after when ≡ event)
 
-set_reads : (verb object property integer : List ℕ) (event : Event) → verb ≡ codes "set" → set_event object property integer ≡ Some event → IsSpeltBy (verb ∷ object ∷ property ∷ integer ∷ []) event
+after_reads : (kind : Kind) (word : List ℕ) (words : List (List ℕ)) (event : Event) → word ≡ codes "after" → next_after kind words ≡ Some event → AreSearchOf kind (word ∷ words) event
+unfolding next_after
+after_reads kind word [] event v h = absurd (none-some _ h)
+after_reads kind word (number ∷ words) event v h =
+    let first = bind_some (number_below (2 ^ 63) number) (λ n. option_map (Next kind (Some n)) (when_of words)) event h in
+    let second = map_some (when_of words) (Next kind (Some first.0)) event first.2 in
+    let n = number_reads (2 ^ 63) number first.0 (omega arith) first.1 in
+    let when = when_reads words second.0 second.1 in
+    (Some first.0, second.0, (n.0, when.0), same_words _ _ _ _ v (same_words _ _ _ _ n.1 when.1), second.2)
+
+search_reads : (kind : Kind) (words : List (List ℕ)) (event : Event) → next_of kind words ≡ Some event → AreSearchOf kind words event
+unfolding next_of
+search_reads kind [] event h = absurd (none-some _ h)
+search_reads kind (word ∷ words) event h = elim (chosen (bytes_eq word (codes "first")) (option_map (Next kind None) (when_of words)) _ event h) [
+  | inl a ↦ (
+      let some = map_some (when_of words) (Next kind None) event a.1 in
+      let when = when_reads words some.0 some.1 in
+      (None, some.0, when.0, same_words _ _ _ _ (same_text word _ a.0) when.1, some.2))
+  | inr more ↦ (
+      let a = kept (bytes_eq word (codes "after")) (next_after kind words) event more.1 in
+      after_reads kind word words event (same_text word _ a.0) a.1)
+]
+
+next_reads : (verb : List ℕ) (words : List (List ℕ)) (event : Event) → verb ≡ codes "next" → next_event words ≡ Some event → AreWordsOf (verb ∷ words) event
+unfolding next_event
+next_reads verb [] event v h = absurd (none-some _ h)
+next_reads verb (word ∷ words) event v h =
+    let first = bind_some (kind_of word) (λ kind. next_of kind words) event h in
+    let search = search_reads first.0 words event first.2 in
+    let kind = kind_reads word first.0 first.1 in
+    subst (AreWordsOf (verb ∷ word ∷ words)) search.4 (λ line caller is. (search.2, line_by line caller _ _ (same_words _ _ _ _ v (same_words _ _ _ _ kind search.3)) is))
+
+-- WRITES
+
+deleted : (x : Oid) (verb object : List ℕ) → verb ≡ codes "delete" → IsSpelledOid x × (object ≡ oid_text x) → AreWordsOf (verb ∷ object ∷ []) (Write (delete_ask x))
+deleted (oid.Vertex id) verb object v x line caller is = (x.0, line_by line caller _ _ (same_words _ _ _ _ v (ap (λ w. w ∷ []) x.1)) is)
+deleted (oid.Edge id) verb object v x line caller is = (x.0, line_by line caller _ _ (same_words _ _ _ _ v (ap (λ w. w ∷ []) x.1)) is)
+
+delete_reads : (verb : List ℕ) (words : List (List ℕ)) (event : Event) → verb ≡ codes "delete" → delete_event words ≡ Some event → AreWordsOf (verb ∷ words) event
+unfolding delete_event
+delete_reads verb [] event v h = absurd (none-some _ h)
+delete_reads verb (object ∷ []) event v h =
+    let some = map_some (oid_of object) (λ x. Write (delete_ask x)) event h in
+    subst (AreWordsOf (verb ∷ object ∷ [])) some.2 (deleted some.0 verb object v (oid_reads object some.0 some.1))
+delete_reads verb (a ∷ b ∷ words) event v h = absurd (none-some _ h)
+
+label_reads : (verb : List ℕ) (words : List (List ℕ)) (event : Event) → verb ≡ codes "label" → label_event words ≡ Some event → AreWordsOf (verb ∷ words) event
+unfolding label_event
+label_reads verb [] event v h = absurd (none-some _ h)
+label_reads verb (a ∷ []) event v h = absurd (none-some _ h)
+label_reads verb (vertex ∷ label ∷ []) event v h =
+    let first = bind_some (vertex_of vertex) (λ id. option_and_then (λ name. Some (Write (AddLabel id name))) (name_of label)) event h in
+    let second = bind_some (name_of label) (λ name. Some (Write (AddLabel first.0 name))) event first.2 in
+    let id = vertex_reads vertex first.0 first.1 in
+    let name = name_reads label second.0 second.1 in
+    subst (AreWordsOf (verb ∷ vertex ∷ label ∷ [])) (same_Some _ _ second.2) (λ line caller is. ((id.0, name.0), line_by line caller _ _ (same_words _ _ _ _ v (same_words _ _ _ _ id.1 (ap (λ w. w ∷ []) name.1))) is))
+label_reads verb (a ∷ b ∷ d ∷ words) event v h = absurd (none-some _ h)
+
+unlabel_reads : (verb : List ℕ) (words : List (List ℕ)) (event : Event) → verb ≡ codes "unlabel" → unlabel_event words ≡ Some event → AreWordsOf (verb ∷ words) event
+unfolding unlabel_event
+unlabel_reads verb [] event v h = absurd (none-some _ h)
+unlabel_reads verb (a ∷ []) event v h = absurd (none-some _ h)
+unlabel_reads verb (vertex ∷ label ∷ []) event v h =
+    let first = bind_some (vertex_of vertex) (λ id. option_and_then (λ name. Some (Write (RemoveLabel id name))) (name_of label)) event h in
+    let second = bind_some (name_of label) (λ name. Some (Write (RemoveLabel first.0 name))) event first.2 in
+    let id = vertex_reads vertex first.0 first.1 in
+    let name = name_reads label second.0 second.1 in
+    subst (AreWordsOf (verb ∷ vertex ∷ label ∷ [])) (same_Some _ _ second.2) (λ line caller is. ((id.0, name.0), line_by line caller _ _ (same_words _ _ _ _ v (same_words _ _ _ _ id.1 (ap (λ w. w ∷ []) name.1))) is))
+unlabel_reads verb (a ∷ b ∷ d ∷ words) event v h = absurd (none-some _ h)
+
+edge_reads : (verb : List ℕ) (words : List (List ℕ)) (event : Event) → verb ≡ codes "edge" → edge_event words ≡ Some event → AreWordsOf (verb ∷ words) event
+unfolding edge_event
+edge_reads verb [] event v h = absurd (none-some _ h)
+edge_reads verb (a ∷ []) event v h = absurd (none-some _ h)
+edge_reads verb (a ∷ b ∷ []) event v h = absurd (none-some _ h)
+edge_reads verb (source ∷ kind ∷ target ∷ []) event v h =
+    let first = bind_some (vertex_of source) (λ from. option_and_then (λ to. option_and_then (λ name. Some (Write (CreateEdge from name to))) (name_of kind)) (vertex_of target)) event h in
+    let second = bind_some (vertex_of target) (λ to. option_and_then (λ name. Some (Write (CreateEdge first.0 name to))) (name_of kind)) event first.2 in
+    let third = bind_some (name_of kind) (λ name. Some (Write (CreateEdge first.0 name second.0))) event second.2 in
+    let from = vertex_reads source first.0 first.1 in
+    let to = vertex_reads target second.0 second.1 in
+    let name = name_reads kind third.0 third.1 in
+    subst (AreWordsOf (verb ∷ source ∷ kind ∷ target ∷ [])) (same_Some _ _ third.2) (λ line caller is. ((from.0, name.0, to.0), line_by line caller _ _ (same_words _ _ _ _ v (same_words _ _ _ _ from.1 (same_words _ _ _ _ name.1 (ap (λ w. w ∷ []) to.1)))) is))
+edge_reads verb (a ∷ b ∷ d ∷ e ∷ words) event v h = absurd (none-some _ h)
+
+-- EVENTS WITHOUT A VALUE
+
+worded_reads : (verb : List ℕ) (words : List (List ℕ)) (event : Event) → worded_event verb words ≡ Some event → AreWordsOf (verb ∷ words) event
+unfolding worded_event
+worded_reads verb words event h = elim (chosen (bytes_eq verb (codes "read")) (read_event words) _ event h) [
+  | inl a ↦ read_reads verb words event (same_text verb _ a.0) a.1
+  | inr more ↦ elim (chosen (bytes_eq verb (codes "next")) (next_event words) _ event more.1) [
+    | inl a ↦ next_reads verb words event (same_text verb _ a.0) a.1
+    | inr more ↦ elim (chosen (bytes_eq verb (codes "delete")) (delete_event words) _ event more.1) [
+      | inl a ↦ delete_reads verb words event (same_text verb _ a.0) a.1
+      | inr more ↦ elim (chosen (bytes_eq verb (codes "label")) (label_event words) _ event more.1) [
+        | inl a ↦ label_reads verb words event (same_text verb _ a.0) a.1
+        | inr more ↦ elim (chosen (bytes_eq verb (codes "unlabel")) (unlabel_event words) _ event more.1) [
+          | inl a ↦ unlabel_reads verb words event (same_text verb _ a.0) a.1
+          | inr more ↦ (let a = kept (bytes_eq verb (codes "edge")) (edge_event words) event more.1 in edge_reads verb words event (same_text verb _ a.0) a.1)
+        ]
+      ]
+    ]
+  ]
+]
+
+words_read : (words : List (List ℕ)) (event : Event) → words_event words ≡ Some event → AreWordsOf words event
+unfolding words_event
+words_read [] event h = absurd (none-some _ h)
+words_read (verb ∷ []) event h = plain_reads verb event h
+words_read (verb ∷ word ∷ words) event h = worded_reads verb (word ∷ words) event h
+
+-- LINES
+
+cut_by : (space : Bool) (b : ℕ) (bytes : List ℕ) (parts : List ℕ × List ℕ) → (b == 32) ≡ space → ((rest : List ℕ × List ℕ) → cut bytes ≡ Some rest → bytes ≡ rest.0 ++ 32 ∷ rest.1)
+    → cond space (Some ([], bytes)) (option_map (in_front b) (cut bytes)) ≡ Some parts → (b ∷ bytes) ≡ parts.0 ++ 32 ∷ parts.1
+cut_by true b bytes parts is more h =
+    let space : b ≡ 32 = grind (arith, nat_tests) in
+    subst (λ (p : List ℕ × List ℕ). (b ∷ bytes) ≡ p.0 ++ 32 ∷ p.1) (same_Some _ _ h) (ap (λ c. c ∷ bytes) space)
+cut_by false b bytes parts is more h =
+    let some = map_some (cut bytes) (in_front b) parts h in
+    subst (λ (p : List ℕ × List ℕ). (b ∷ bytes) ≡ p.0 ++ 32 ∷ p.1) some.2 (ap (λ bs. b ∷ bs) (more some.0 some.1))
+
+cut_reads : (text : List ℕ) (parts : List ℕ × List ℕ) → cut text ≡ Some parts → text ≡ parts.0 ++ 32 ∷ parts.1
+cut_reads [] parts h = absurd (none-some _ h)
+cut_reads (b ∷ bytes) parts h = cut_by (b == 32) b bytes parts refl (cut_reads bytes) h
+
+-- words that say something are there
+joined : (word text : List ℕ) (words : List (List ℕ)) (event : Event) → words_event words ≡ Some event → join_with_byte 32 words ≡ text → word ++ 32 ∷ text ≡ join_with_byte 32 (word ∷ words)
+unfolding words_event
+joined word text [] event h is = absurd (none-some _ h)
+joined word text (first ∷ words) event h is = ap (λ t. word ++ 32 ∷ t) (sym is)
+
+abbrev IsLineBehind : ℕ → List ℕ → Event → Type 0
+IsLineBehind caller text event = IsEventLine (decimal caller ++ 32 ∷ text) caller event
+
+split_reads : (caller : ℕ) (text : List ℕ) (event : Event) → words_event (words_of text) ≡ Some event → IsLineBehind caller text event
+split_reads caller text event h =
+    words_read (words_of text) event h (decimal caller ++ 32 ∷ text) caller (joined (decimal caller) text (words_of text) event h (join_with_byte-slice_split 32 text))
+
+set_line : (caller : ℕ) (text : List ℕ) (x : Oid) (name json : List ℕ) (value : Value) → text ≡ codes "set" ++ 32 ∷ (oid_text x ++ 32 ∷ (name ++ 32 ∷ json)) → IsSpelledOid x → IsSpelledName name → json_value json ≡ Some value → IsLineBehind caller text (Write (set_ask x name value))
+set_line caller text (oid.Vertex id) name json value is x n v = (x, n, json, v, ap (λ t. decimal caller ++ 32 ∷ t) is)
+set_line caller text (oid.Edge id) name json value is x n v = (x, n, json, v, ap (λ t. decimal caller ++ 32 ∷ t) is)
+
+property_reads : (caller : ℕ) (text : List ℕ) (x : Oid) (property json : List ℕ) (event : Event) → text ≡ codes "set" ++ 32 ∷ (oid_text x ++ 32 ∷ (property ++ 32 ∷ json)) → IsSpelledOid x → property_event x property json ≡ Some event → IsLineBehind caller text event
+unfolding property_event
+property_reads caller text x property json event is spelled h =
+    let first = bind_some (name_of property) (λ name. option_and_then (λ v. Some (Write (set_ask x name v))) (json_value json)) event h in
+    let second = bind_some (json_value json) (λ v. Some (Write (set_ask x first.0 v))) event first.2 in
+    let name = name_reads property first.0 first.1 in
+    let named = is ∙ ap (λ w. codes "set" ++ 32 ∷ (oid_text x ++ 32 ∷ (w ++ 32 ∷ json))) name.1 in
+    subst (IsLineBehind caller text) (same_Some _ _ second.2) (set_line caller text x first.0 json second.0 named spelled name.0 second.1)
+
+set_text : (text behind : List ℕ) (first second : List ℕ × List ℕ) (x : Oid) → text ≡ codes "set" ++ 32 ∷ behind → cut behind ≡ Some first → first.0 ≡ oid_text x → cut first.1 ≡ Some second
+    → text ≡ codes "set" ++ 32 ∷ (oid_text x ++ 32 ∷ (second.0 ++ 32 ∷ second.1))
+set_text text behind first second x is one object two =
+    is ∙ ap (λ t. codes "set" ++ 32 ∷ t) (cut_reads behind first one ∙ ap (λ w. w ++ 32 ∷ first.1) object ∙ ap (λ t. oid_text x ++ 32 ∷ t) (cut_reads first.1 second two))
+
+set_reads : (caller : ℕ) (text behind : List ℕ) (event : Event) → text ≡ codes "set" ++ 32 ∷ behind → set_event behind ≡ Some event → IsLineBehind caller text event
 unfolding set_event
-set_reads verb object property integer event v h =
-    let first = bind_some (oid_of object) (λ x. option_and_then (λ n. option_and_then (λ name. Some (Write (set_ask x name n))) (name_of property)) (integer_of integer)) event h in
-    let second = bind_some (integer_of integer) (λ n. option_and_then (λ name. Some (Write (set_ask first.0 name n))) (name_of property)) event first.2 in
-    let third = bind_some (name_of property) (λ name. Some (Write (set_ask first.0 name second.0))) event second.2 in
-    subst (IsSpeltBy (verb ∷ object ∷ property ∷ integer ∷ [])) (same_Some _ _ third.2) (set_by verb object property integer first.0 third.0 second.0 v (oid_reads object first.0 first.1) (name_reads property third.0 third.1) (integer_reads integer second.0 second.1))
+set_reads caller text behind event is h =
+    let first = bind_some (cut behind) (λ p. option_and_then (λ x. option_and_then (λ q. property_event x q.0 q.1) (cut p.1)) (oid_of p.0)) event h in
+    let second = bind_some (oid_of first.0.0) (λ x. option_and_then (λ q. property_event x q.0 q.1) (cut first.0.1)) event first.2 in
+    let third = bind_some (cut first.0.1) (λ q. property_event second.0 q.0 q.1) event second.2 in
+    let x = oid_reads first.0.0 second.0 second.1 in
+    let whole = set_text text behind first.0 third.0 second.0 is first.1 x.1 third.1 in
+    property_reads caller text second.0 third.0.0 third.0.1 event whole x.0 third.2
 
-event_reads : (words : List (List ℕ)) (event : Event) → event_of words ≡ Some event → IsSpeltBy words event
-unfolding event_of
-event_reads [] event h = absurd (none-some _ h)
-event_reads (verb ∷ []) event h = plain_reads verb event h
-event_reads (verb ∷ object ∷ []) event h = absurd (none-some _ h)
-event_reads (verb ∷ object ∷ when ∷ []) event h =
-    let is = kept (bytes_eq verb (codes "read") && bytes_eq when (codes "own")) (read_event object) event h in
-    let texts = both _ _ is.0 in
-    read_reads verb object when event (same_text verb _ texts.0) (same_text when _ texts.1) is.1
-event_reads (verb ∷ object ∷ property ∷ integer ∷ []) event h =
-    let is = kept (bytes_eq verb (codes "set")) (set_event object property integer) event h in
-    set_reads verb object property integer event (same_text verb _ is.0) is.1
-event_reads (verb ∷ object ∷ property ∷ integer ∷ more ∷ words) event h = absurd (none-some _ h)
-
-request_reads : (words : List (List ℕ)) (request : Request) → request_from_words words ≡ Some request → HasSpelling request × (words ≡ decimal request.caller ∷ event_words request.event)
-unfolding request_from_words
-request_reads [] request h = absurd (none-some _ h)
-request_reads (word ∷ words) request h =
-    let first = bind_some (number_below (2 ^ 32) word) (λ n. option_and_then (λ event. Some (record { caller = n; event = event })) (event_of words)) request h in
-    let second = bind_some (event_of words) (λ event. Some (record { caller = first.0; event = event })) request first.2 in
-    let caller = number_reads (2 ^ 32) word first.0 (omega arith) first.1 in
-    let event = event_reads words second.0 second.1 in
-    let P : Request → Type 0 = λ r. HasSpelling r × ((word ∷ words) ≡ decimal r.caller ∷ event_words r.event) in
-    subst P (same_Some _ _ second.2) ((caller.0, event.0), same_words _ _ _ _ caller.1 event.1)
+parted_reads : (caller : ℕ) (text : List ℕ) (parts : Option (List ℕ × List ℕ)) (event : Event) → cut text ≡ parts → parted_event text parts ≡ Some event → IsLineBehind caller text event
+parted_reads caller text None event is h = split_reads caller text event h
+parted_reads caller text (Some parts) event is h = elim (chosen (bytes_eq parts.0 (codes "set")) (set_event parts.1) (words_event (words_of text)) event h) [
+  | inl a ↦ set_reads caller text parts.1 event (cut_reads text parts is ∙ ap (λ w. w ++ 32 ∷ parts.1) (same_text parts.0 _ a.0)) a.1
+  | inr more ↦ split_reads caller text event more.1
+]
 
 pub read_is_spelling : ReadIsSpelling
+unfolding request_of
 read_is_spelling line request h =
-    let read = request_reads (words_of line) request h in
-    (read.0, sym (join_with_byte-slice_split 32 line) ∙ ap (join_with_byte 32) read.1)
+    let first = bind_some (cut line) (λ p. option_and_then (λ n. option_and_then (λ event. Some (record { caller = n; event = event })) (event_of p.1)) (number_below (2 ^ 32) p.0)) request h in
+    let second = bind_some (number_below (2 ^ 32) first.0.0) (λ n. option_and_then (λ event. Some (record { caller = n; event = event })) (event_of first.0.1)) request first.2 in
+    let third = bind_some (event_of first.0.1) (λ event. Some (record { caller = second.0; event = event })) request second.2 in
+    let caller = number_reads (2 ^ 32) first.0.0 second.0 (omega arith) second.1 in
+    let whole = cut_reads line first.0 first.1 ∙ ap (λ w. w ++ 32 ∷ first.0.1) caller.1 in
+    let behind = parted_reads second.0 first.0.1 (cut first.0.1) third.0 refl third.1 in
+    subst (IsLineOf line) (same_Some _ _ third.2) (caller.0, subst (λ (l : List ℕ). IsEventLine l second.0 third.0) (sym whole) behind)

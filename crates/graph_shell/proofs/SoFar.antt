@@ -4,7 +4,7 @@ use Rattle.std.proofs.lemmas.List.{append_assoc, append-nil, take-append-drop, l
 use Rattle.std.proofs.Math.Seq.{take-append-add}
 use Rattle.world_model.specs.World.{World, start_world}
 use Rattle.world_model.specs.History.{Entry, run}
-use Rattle.front_core.specs.Keeps.{Kept, StandsFor, first_start}
+use Rattle.front_core.specs.Keeps.{first_start}
 use Rattle.wire_line.specs.declared.line.TheConstants.{INPUT_LIMIT}
 use Rattle.wire_line.specs.Intake.{Intake, IsEnd, StillAhead, GoesPast, within_limit}
 use Rattle.wire_line.specs.Lines.{lines_of, ended_lines, first_line, after_line, HasNoEnd}
@@ -52,9 +52,9 @@ gone_split list ahead rest given g there behind (inr is) = record {
 -- WHAT WAS ANSWERED
 
 -- What was answered and written so far, of an event list of which some is still ahead.
-pub record SoFar (core : Kept) (reader : Intake) (left list before now : List ℕ) : Type 0 where
+pub record SoFar (Stands : List Entry → Type 0) (reader : Intake) (left list before now : List ℕ) : Type 0 where
   pub es : List Entry
-  pub stands : StandsFor first_start core es
+  pub stands : Stands es
   pub at_start : reader.passing ≡ false
   pub text : List ℕ
   pub written : now ≡ before ++ text
@@ -64,9 +64,9 @@ pub record SoFar (core : Kept) (reader : Intake) (left list before now : List �
   pub lines : lines_of list ≡ given ++ lines_of (reader.waiting ++ left)
   pub gone : Gone list given (reader.waiting ++ left)
 
-pub at_first : (core : Kept) (reader : Intake) (list before : List ℕ) → StandsFor first_start core [] → reader.waiting ≡ [] → reader.passing ≡ false → SoFar core reader list list before before
+pub at_first : (Stands : List Entry → Type 0) (reader : Intake) (list before : List ℕ) → Stands [] → reader.waiting ≡ [] → reader.passing ≡ false → SoFar Stands reader list list before before
 unfolding run
-at_first core reader list before stands empty start =
+at_first Stands reader list before stands empty start =
     let all : reader.waiting ++ list ≡ list = ap (λ (x : List ℕ). x ++ list) empty in
     record {
       es = [];
@@ -88,9 +88,9 @@ unfolding lines_text
 one_line wanting later w after line text lines is goes =
     sym (ap (λ x. x ++ lines_text later after lines) is ∙ ap (λ x. (answer_line wanting w line).text ++ lines_text later x lines) goes)
 
-pub one_more : (core new : Kept) (a b : Intake) (left rest list before now then text : List ℕ) → (so_far : SoFar core a left list before now)
-    → AnswersNext new text a b (a.waiting ++ left) (b.waiting ++ rest) so_far.es → then ≡ now ++ text → SoFar new b rest list before then
-one_more core new a b left rest list before now then text so_far next is =
+pub one_more : (Stands After : List Entry → Type 0) (a b : Intake) (left rest list before now then text : List ℕ) → (so_far : SoFar Stands a left list before now)
+    → AnswersNext After text a b (a.waiting ++ left) (b.waiting ++ rest) so_far.es → then ≡ now ++ text → SoFar After b rest list before then
+one_more Stands After a b left rest list before now then text so_far next is =
     let answer = next.answers in
     let ahead : List ℕ = a.waiting ++ left in
     let w : World = run (start_world first_start) so_far.es in
@@ -117,7 +117,7 @@ unfolding lines_text
 no_lines later w = refl
 
 -- what was written so far answers the lines that were given
-text_of : {core : Kept} {reader : Intake} {left list before now : List ℕ} → (so_far : SoFar core reader left list before now)
+text_of : {Stands : List Entry → Type 0} {reader : Intake} {left list before now : List ℕ} → (so_far : SoFar Stands reader left list before now)
     → so_far.text ≡ answers_text (so_far.choices []) so_far.given
 text_of so_far =
     sym (ap (answers_text (so_far.choices [])) (sym (append-nil so_far.given)) ∙ so_far.answered [] []
@@ -130,9 +130,9 @@ second_empty : (first second : List ℕ) → first ++ second ≡ [] → second �
 second_empty first second none = nil_from_length second (omega (arith, ap length none, length-append first second))
 
 -- at the end of the input
-pub answers_all : {core : Kept} {a : Intake} {left list before now : List ℕ} (rest waiting : List ℕ) → (so_far : SoFar core a left list before now)
+pub answers_all : {Stands : List Entry → Type 0} {a : Intake} {left list before now : List ℕ} (rest waiting : List ℕ) → (so_far : SoFar Stands a left list before now)
     → IsEnd a (a.waiting ++ left) (waiting ++ rest) → AnswersAll list rest before now
-answers_all {core} {a} {left} {list} {before} {now} rest waiting so_far end = record {
+answers_all {Stands} {a} {left} {list} {before} {now} rest waiting so_far end = record {
   read = second_empty waiting rest end.still;
   wanting = so_far.choices [];
   written = so_far.written ∙ ap (λ x. before ++ x)
@@ -154,9 +154,9 @@ ended_at list _ given ahead dropped waiting rest g lines is none (inr empty) =
     let whole : g.gone ++ (dropped ++ waiting) ≡ list = ap (λ (x : List ℕ). g.gone ++ x) (no_more ∙ sym empty) ∙ sym g.stream in
     inr (no_rest, sym (ap lines_of whole ∙ lines ∙ ap (λ (x : List ℕ). given ++ lines_of x) empty ∙ append-nil given))
 
-pub answers_read : {core : Kept} {a b : Intake} {left list before now : List ℕ} (rest : List ℕ) → (so_far : SoFar core a left list before now)
+pub answers_read : {Stands : List Entry → Type 0} {a b : Intake} {left list before now : List ℕ} (rest : List ℕ) → (so_far : SoFar Stands a left list before now)
     → StillAhead a b left rest → HasNoEnd b.waiting → AnswersRead list rest before now
-answers_read {core} {a} {b} {left} {list} {before} {now} rest so_far still none =
+answers_read {Stands} {a} {b} {left} {list} {before} {now} rest so_far still none =
     let free : HasNoEnd (still.dropped ++ b.waiting) = first_line-append still.dropped b.waiting still.no_end ∙ ap (λ (x : List ℕ). still.dropped ++ x) none in
     record {
       read = so_far.gone.gone ++ (still.dropped ++ b.waiting);
@@ -177,9 +177,9 @@ within_gone list ahead given n g width past (inl ended) =
     ∙ ap (λ (x : List (List ℕ)). given ++ x) (ended_lines-none (take n ahead) past.no_end) ∙ append-nil given)
 within_gone list ahead given n g width past (inr empty) = absurd (omega (arith, past.more, ap length empty))
 
-pub answers_within : {core : Kept} {a : Intake} {left list before now : List ℕ} → (so_far : SoFar core a left list before now)
+pub answers_within : {Stands : List Entry → Type 0} {a : Intake} {left list before now : List ℕ} → (so_far : SoFar Stands a left list before now)
     → GoesPast (within_limit a) (a.waiting ++ left) → a.taken ≤ INPUT_LIMIT → length left + a.taken ≡ length list → AnswersWithin list before now
-answers_within {core} {a} {left} {list} {before} {now} so_far past limit counted =
+answers_within {Stands} {a} {left} {list} {before} {now} so_far past limit counted =
     let width : length so_far.gone.gone + within_limit a ≡ INPUT_LIMIT =
     omega (arith, ap length so_far.gone.stream, length-append so_far.gone.gone (a.waiting ++ left), length-append a.waiting left, counted, limit) in
     record {
@@ -189,8 +189,8 @@ answers_within {core} {a} {left} {list} {before} {now} so_far past limit counted
     }
 
 -- what was written so far is a front of the whole text
-pub front_of : {core : Kept} {a : Intake} {left list before now : List ℕ} → SoFar core a left list before now → WritesFront list before now
-front_of {core} {a} {left} {list} {before} {now} so_far =
+pub front_of : {Stands : List Entry → Type 0} {a : Intake} {left list before now : List ℕ} → SoFar Stands a left list before now → WritesFront list before now
+front_of {Stands} {a} {left} {list} {before} {now} so_far =
     let rest : List ℕ = lines_text [] (run (start_world first_start) so_far.es) (lines_of (a.waiting ++ left)) in
     record {
       wanting = so_far.choices [];
@@ -206,10 +206,10 @@ front_and_rest now text rest n =
     ∙ sym (append_assoc now text rest)
 
 -- so it is where only a front of the next reply was written
-pub front_of_reply : (core new : Kept) (a b : Intake) (left rest list before now then text : List ℕ) (n : ℕ) → (so_far : SoFar core a left list before now)
-    → AnswersNext new text a b (a.waiting ++ left) (b.waiting ++ rest) so_far.es → then ≡ now ++ take n text → WritesFront list before then
-front_of_reply core new a b left rest list before now then text n so_far next is =
-    let f : WritesFront list before (now ++ text) = front_of (one_more core new a b left rest list before now (now ++ text) text so_far next refl) in
+pub front_of_reply : (Stands After : List Entry → Type 0) (a b : Intake) (left rest list before now then text : List ℕ) (n : ℕ) → (so_far : SoFar Stands a left list before now)
+    → AnswersNext After text a b (a.waiting ++ left) (b.waiting ++ rest) so_far.es → then ≡ now ++ take n text → WritesFront list before then
+front_of_reply Stands After a b left rest list before now then text n so_far next is =
+    let f : WritesFront list before (now ++ text) = front_of (one_more Stands After a b left rest list before now (now ++ text) text so_far next refl) in
     record {
       wanting = f.wanting;
       unwritten = drop n text ++ f.unwritten;

@@ -4,7 +4,7 @@ use Rattle.std.proofs.lemmas.Bool.Decides.{nat_tests}
 use Rattle.std.specs.Prelude.{slice_range}
 use Rattle.world_model.specs.World.{World, start_world}
 use Rattle.world_model.specs.History.{Entry, run}
-use Rattle.front_core.specs.Keeps.{Kept, StandsFor, first_start}
+use Rattle.front_core.specs.Keeps.{first_start}
 use Rattle.wire_line.specs.declared.line.LineSpan.{LineSpan}
 use Rattle.wire_line.specs.declared.line.TheConstants.{LINE_LIMIT}
 use Rattle.wire_line.specs.Intake.{Intake, IsFirstLine, IsTooLong}
@@ -20,10 +20,10 @@ beyond : (limit n : ℕ) → limit < n → nat_lt limit n ≡ true
 beyond limit n long = grind (arith, nat_tests)
 
 -- a line that isn't too long is answered without its carriage return
-pub answers_short : (new : Kept) (text line ahead rest : List ℕ) (es : List Entry) (span : LineSpan) (before after : Intake)
+pub answers_short : (Stands : List Entry → Type 0) (text line ahead rest : List ℕ) (es : List Entry) (span : LineSpan) (before after : Intake)
     → IsFirstLine span before after ahead rest → line ≡ slice_range after.buffer span.from span.to
-    → AnswersLine (λ wanting w. answer_short wanting w line) new text es → AnswersNext new text before after ahead rest es
-answers_short new text line ahead rest es span before after first is a =
+    → AnswersLine (λ wanting w. answer_short wanting w line) Stands text es → AnswersNext Stands text before after ahead rest es
+answers_short Stands text line ahead rest es span before after first is a =
     let w : World = run (start_world first_start) es in
     let same : answer_short a.wanting w line ≡ answer_line a.wanting w (first_line ahead) =
     ap (answer_short a.wanting w) (is ∙ first.text)
@@ -48,9 +48,9 @@ not_empty ahead long empty = below (subst (λ x. LINE_LIMIT < length (first_line
     below l = omega (arith, l)
 
 -- a line that is too long is answered as a bad one
-pub answers_long : (core : Kept) (text ahead rest : List ℕ) (es : List Entry) (before after : Intake)
-    → IsTooLong before after ahead rest → before.passing ≡ false → text ≡ bad_line → StandsFor first_start core es → AnswersNext core text before after ahead rest es
-answers_long core text ahead rest es before after first start is stands =
+pub answers_long : (Stands : List Entry → Type 0) (text ahead rest : List ℕ) (es : List Entry) (before after : Intake)
+    → IsTooLong before after ahead rest → before.passing ≡ false → text ≡ bad_line → Stands es → AnswersNext Stands text before after ahead rest es
+answers_long Stands text ahead rest es before after first start is stands =
     let long : LINE_LIMIT < length (first_line ahead) = first.long start in
     let w : World = run (start_world first_start) es in
     let same : answer_line false w (first_line ahead) ≡ record { text = bad_line; world = w } =

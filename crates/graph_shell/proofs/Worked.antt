@@ -1,15 +1,18 @@
 -- The definitions, computed on lines whose answers are known.
-use Rattle.std.proofs.Common.{◌≡◌, ℕ, pos, List, [], ◌∷◌, ◌++◌, Bool, true, false, not, cond, None, codes, refl, ap, ◌∙◌}
+use Rattle.std.proofs.Common.{◌≡◌, ℕ, pos, List, [], ◌∷◌, ◌++◌, Bool, true, false, not, cond, codes, refl, ap, ◌∙◌}
 use Rattle.std.specs.Fmt.{digits}
+use Rattle.std.specs.Str.{is_utf8, chars}
 use Rattle.serde_json.proofs.OnLiterals.{serde_json_on_literals}
 use Rattle.graph_value.specs.Value.{same_value}
 use Rattle.graph_value.specs.declared.id.VertexId.{VertexId}
 use Rattle.graph_value.specs.declared.value.Value as values
 use Rattle.graph_value.specs.declared.value.Value.TheVariants.{Null, Int}
 use Rattle.graph_value.proofs.Levels.{null_apart}
+use Rattle.undo_delta.specs.declared.op.Op.{Op}
 use Rattle.undo_delta.specs.declared.op.Op.TheVariants as op
-use Rattle.world_model.specs.declared.event.Ask.{Ask}
-use Rattle.world_model.specs.declared.event.Ask.TheVariants.{SetVertexProp}
+use Rattle.world_model.specs.declared.event.Asked.TheVariants as asked
+use Rattle.undo_delta.specs.declared.ask.Ask.{Ask}
+use Rattle.undo_delta.specs.declared.ask.Ask.TheVariants.{SetVertexProp}
 use Rattle.world_model.specs.History.{is_no_memory}
 use Rattle.world_model.specs.Op.{apply_all, are_touching}
 use Rattle.world_model.specs.Step.{with_op, effect_step}
@@ -17,7 +20,9 @@ use Rattle.world_model.specs.World.{World, start_world, find_txn, other_writer, 
 use Rattle.front_core.specs.Keeps.{first_start}
 use Rattle.wire_line.specs.Lines.{lines_of}
 use Rattle.graph_shell.specs.Reply.{reply_text}
-use Rattle.graph_shell.specs.Request.{request_from_words, number_below, event_of, plain_event, read_event, set_event, integer_of, nonnegative_of, name_of, oid_of}
+use Rattle.graph_shell.specs.Words.{number_below, name_of, oid_of}
+use Rattle.graph_shell.specs.Values.{json_value}
+use Rattle.graph_shell.specs.Request.{request_of, words_event, plain_event, worded_event, read_event, when_of, set_event, property_event}
 use Rattle.graph_shell.specs.Events.{Answered, answer_line, events_text, lines_text}
 
 -- each line with its line end
@@ -32,7 +37,7 @@ nothing_asked = refl
 
 -- a carriage return is no part of a line, and the last line may lack its end
 begun_once : events_text [] (codes "1 begin" ++ 13 ∷ 10 ∷ codes "1 begin") ≡ codes "1 begin 1" ++ 10 ∷ codes "1 refused 2 already open" ++ 10 ∷ []
-unfolding lines_text request_from_words number_below event_of plain_event digits
+unfolding lines_text request_of number_below words_event plain_event digits
 begun_once = refl
 
 -- ---- what a transaction wrote is seen by itself, and by no other that began before its commit
@@ -42,6 +47,9 @@ first_vertex = record { 0 = 0 }
 
 abbrev set_k : Ask
 set_k = SetVertexProp first_vertex (codes "k") (Int (pos 1))
+
+abbrev k_is_set : Op
+k_is_set = op.SetVertexProp first_vertex (codes "k") (Int (pos 1))
 
 -- the world after the transaction made a vertex, and set its property
 abbrev made : World
@@ -55,21 +63,21 @@ abbrev later : List (List ℕ)
 later = codes "1 read v0 own" ∷ codes "2 begin" ∷ codes "2 set v0 k 2" ∷ codes "1 commit" ∷ []
 
 a_vertex_is_made : (rest : List (List ℕ)) → lines_text [] (start_world first_start) (codes "1 begin" ∷ codes "1 vertex" ∷ rest) ≡ codes "1 begin 1" ++ 10 ∷ codes "1 v0" ++ 10 ∷ lines_text [] made rest
-unfolding lines_text request_from_words number_below event_of plain_event find_txn other_writer newest_touch ops_of before with_op apply_all are_touching digits
+unfolding lines_text request_of number_below words_event plain_event find_txn other_writer newest_touch ops_of before with_op apply_all are_touching digits
 a_vertex_is_made rest = refl
 
 -- the answer, where the write changes the graph or doesn't
 abbrev set_answered : Bool → Answered
 set_answered changed = record {
-  text = reply_text 1 None (effect_step made 1 set_k changed).reply;
-  world = cond (is_no_memory (effect_step made 1 set_k changed).reply) made (effect_step made 1 set_k changed).world;
+  text = reply_text 1 asked.Nothing (effect_step made 1 set_k k_is_set changed).reply;
+  world = cond (is_no_memory (effect_step made 1 set_k k_is_set changed).reply) made (effect_step made 1 set_k k_is_set changed).world;
 }
 
 it_changes : not (same_value Null (Int (pos 1))) ≡ true
 it_changes = ap not (null_apart (pos 1))
 
 its_property_is_set : answer_line false made (codes "1 set v0 k 1") ≡ record { text = codes "1 done" ++ 10 ∷ []; world = set }
-unfolding request_from_words number_below event_of set_event integer_of nonnegative_of name_of oid_of
+unfolding request_of number_below set_event property_event json_value is_utf8 chars name_of oid_of serde_json_on_literals
     find_txn other_writer newest_touch ops_of before with_op apply_all are_touching digits
     values.out-Value values.roll-Value denote.Hole.Carrier.out denote.Hole.Carrier.roll
 its_property_is_set =
@@ -78,7 +86,7 @@ its_property_is_set =
 
 it_is_read : lines_text [] set later
     ≡ lines (codes "1 {\"id\":0,\"ins\":[],\"labels\":[],\"outs\":[],\"properties\":{\"k\":1}}" ∷ codes "2 begin 2" ∷ codes "2 refused 3 missing v0" ∷ codes "1 commit 3" ∷ [])
-unfolding lines lines_text request_from_words number_below event_of plain_event read_event set_event integer_of nonnegative_of name_of oid_of
+unfolding lines lines_text request_of number_below words_event plain_event worded_event read_event when_of set_event property_event json_value is_utf8 chars name_of oid_of
     find_txn other_writer newest_touch ops_of before with_op apply_all are_touching digits serde_json_on_literals
     values.out-Value values.roll-Value denote.Hole.Carrier.out denote.Hole.Carrier.roll
 it_is_read = refl
@@ -96,6 +104,6 @@ own_writes_are_seen =
 -- without a transaction nothing is committed, and what is no request is answered as none
 nothing_to_commit : events_text [] (lines (codes "3 commit" ∷ codes "3 jump" ∷ []))
     ≡ lines (codes "3 refused 1 no transaction" ∷ codes "- refused 12 bad line" ∷ [])
-unfolding lines lines_text request_from_words number_below event_of plain_event read_event set_event integer_of nonnegative_of name_of oid_of
+unfolding lines lines_text request_of number_below words_event plain_event worded_event read_event when_of set_event property_event json_value is_utf8 chars name_of oid_of
     find_txn other_writer newest_touch ops_of before with_op apply_all are_touching digits serde_json_on_literals
 nothing_to_commit = refl

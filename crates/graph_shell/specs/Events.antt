@@ -5,7 +5,7 @@ use Rattle.world_model.specs.World.{World, start_world}
 use Rattle.world_model.specs.Step.{step}
 use Rattle.world_model.specs.Replies.{asked_by}
 use Rattle.world_model.specs.History.{Entry, may_want, no_memory, world_after, run}
-use Rattle.front_core.specs.Keeps.{Kept, StandsFor, first_start}
+use Rattle.front_core.specs.Keeps.{first_start}
 use Rattle.wire_line.specs.declared.line.TheConstants.{LINE_LIMIT}
 use Rattle.wire_line.specs.Lines.{lines_of, without_return}
 use Rattle.graph_shell.specs.declared.request.Request.{Request}
@@ -63,10 +63,10 @@ answers_text wanting lines = lines_text wanting (start_world first_start) lines
 abbrev pub events_text : List Bool → List ℕ → List ℕ
 events_text wanting bytes = answers_text wanting (lines_of bytes)
 
--- One line was answered: the text is the definition's, and the core stands for a history that comes to its world.
-pub record AnswersLine (answer : Bool → World → Answered) (new : Kept) (text : List ℕ) (es : List Entry) : Type 0 where
+-- One line was answered: the text is the definition's, and what the core stands for has a history that comes to its world.
+pub record AnswersLine (answer : Bool → World → Answered) (Stands : List Entry → Type 0) (text : List ℕ) (es : List Entry) : Type 0 where
   pub wanting : Bool
   pub after : List Entry
-  pub stands : StandsFor first_start new after
+  pub stands : Stands after
   pub text_is : text ≡ (answer wanting (run (start_world first_start) es)).text
   pub world_is : run (start_world first_start) after ≡ (answer wanting (run (start_world first_start) es)).world

@@ -13,8 +13,13 @@ use Rattle.world_model.specs.declared.answer.Wrote.{Wrote}
 use Rattle.world_model.specs.declared.answer.Wrote.TheVariants as wrote
 use Rattle.world_model.specs.declared.answer.Refused.{Refused}
 use Rattle.world_model.specs.declared.answer.Refused.TheVariants as refused
+use Rattle.world_model.specs.declared.answer.Marked.{Marked}
 use Rattle.world_model.specs.declared.answer.Answer.{Answer}
 use Rattle.world_model.specs.declared.answer.Answer.TheVariants as answer
+use Rattle.world_model.specs.declared.event.Asked.{Asked}
+use Rattle.world_model.specs.declared.event.Asked.TheVariants.{Version, Number}
+use Rattle.world_model.specs.declared.event.Kind.{Kind}
+use Rattle.world_model.specs.declared.event.Kind.TheVariants as kind
 
 -- the start of a transaction that is open, or the time of a commit
 abbrev pub rival_text : Rival → List ℕ
@@ -27,6 +32,8 @@ refused_text refused.NoTxn = codes "refused 1 no transaction"
 refused_text refused.AlreadyOpen = codes "refused 2 already open"
 refused_text (refused.Missing x) = codes "refused 3 missing " ++ oid_text x
 refused_text (refused.Conflict x rival) = codes "refused 4 conflict " ++ oid_text x ++ codes " " ++ rival_text rival
+refused_text (refused.HasEdges id) = codes "refused 5 has edges " ++ oid_text (oid.Vertex id)
+refused_text (refused.TimeAhead t start) = codes "refused 6 time ahead " ++ decimal t ++ codes " start " ++ decimal start
 refused_text refused.ClockEnd = codes "refused 7 clock end"
 refused_text refused.TooMany = codes "refused 9 too many"
 refused_text refused.IdEnd = codes "refused 10 id end"
@@ -36,25 +43,44 @@ abbrev pub wrote_text : Wrote → List ℕ
 wrote_text wrote.Done = codes "done"
 wrote_text wrote.Unchanged = codes "unchanged"
 wrote_text (wrote.Vertex id) = oid_text (oid.Vertex id)
+wrote_text (wrote.Edge id) = oid_text (oid.Edge id)
 
 -- An object is printed under the id that was asked for. Nothing is printed of one that nobody asked for.
-abbrev pub version_text : Option Oid → Object → List ℕ
+abbrev pub version_text : Asked → Object → List ℕ
 version_text asked Dead = codes "dead"
-version_text None object = []
-version_text (Some x) object = object_text x object
+version_text (Version x) object = object_text x object
+version_text asked object = []
 
-abbrev pub answer_text : Option Oid → Answer → List ℕ
+-- the object of this kind under a number
+abbrev pub numbered : Kind → ℕ → Oid
+numbered kind.Vertex n = oid.Vertex (record { 0 = n })
+numbered kind.Edge n = oid.Edge (record { 0 = n })
+
+-- A number is printed as the id of an object of the kind that was searched. Nothing is printed of one that nobody asked for.
+abbrev pub found_text : Asked → Option ℕ → List ℕ
+found_text asked None = codes "none"
+found_text (Number kind) (Some n) = oid_text (numbered kind n)
+found_text asked (Some n) = []
+
+-- the two ids that come next are not told
+abbrev pub marked_text : Marked → List ℕ
+marked_text marked = codes "mark " ++ decimal marked.mark ++ codes " clock " ++ decimal marked.clock
+
+abbrev pub answer_text : Asked → Answer → List ℕ
 answer_text asked (answer.Begun start) = codes "begin " ++ decimal start
+answer_text asked (answer.Id id) = found_text asked id
 answer_text asked (answer.Version object) = version_text asked object
 answer_text asked (answer.Wrote what) = wrote_text what
 answer_text asked (answer.Committed ts) = codes "commit " ++ decimal ts
+answer_text asked answer.Aborted = codes "abort"
+answer_text asked (answer.Marked marked) = marked_text marked
 answer_text asked (answer.Refused why) = refused_text why
 
 abbrev pub line_end : List ℕ
 line_end = 10 ∷ []
 
 -- the caller, and what it is answered
-abbrev pub reply_text : ℕ → Option Oid → Answer → List ℕ
+abbrev pub reply_text : ℕ → Asked → Answer → List ℕ
 reply_text caller asked answer = decimal caller ++ codes " " ++ answer_text asked answer ++ line_end
 
 -- the reply to a line that is no request

@@ -1,126 +1,165 @@
--- One line of the input as a request: a caller, and then words parted by single spaces.
-use Rattle.std.specs.Prelude.{ℕ, ◌-◌, ◌*◌, ◌+◌, ◌^◌, ◌==◌, nat_lt, Bool, true, false, ◌&&◌, ◌||◌, not, if◌then◌else◌, List, [], ◌∷◌, fold, codes, Option, Some, None, option_map, option_and_then, ℤ, pos, neg_ℤ}
-use Rattle.std.specs.List.{slice_split, list_all}
-use Rattle.std.specs.Char.{is_ascii_digit, is_ascii_alphabetic, is_ascii_alphanumeric}
+-- One line of the input as a request: a caller, and what it asks for, in words parted by single spaces. Behind `set` the rest
+-- of the line is a value, whatever spaces it has.
+use Rattle.std.specs.Prelude.{ℕ, ◌^◌, ◌==◌, Bool, true, ◌||◌, if◌then◌else◌, List, [], ◌∷◌, codes, Option, Some, None, option_map}
+use Rattle.std.specs.List.{list_all}
 use Rattle.std.specs.Str.{bytes_eq}
 use Rattle.graph_value.specs.declared.id.Oid.{Oid}
-use Rattle.graph_value.specs.declared.id.Oid.TheVariants.{Vertex, Edge}
-use Rattle.graph_value.specs.declared.value.Value.TheVariants.{Int}
-use Rattle.world_model.specs.declared.event.Ask.{Ask}
-use Rattle.world_model.specs.declared.event.Ask.TheVariants.{CreateVertex, SetVertexProp, SetEdgeProp}
+use Rattle.graph_value.specs.declared.id.Oid.TheVariants as oid
+use Rattle.graph_value.specs.declared.value.Value.{Value}
+use Rattle.undo_delta.specs.declared.ask.Ask.{Ask}
+use Rattle.undo_delta.specs.declared.ask.Ask.TheVariants.{CreateVertex, DeleteVertex, AddLabel, RemoveLabel, SetVertexProp, CreateEdge, DeleteEdge, SetEdgeProp}
 use Rattle.world_model.specs.declared.event.Event.{Event}
-use Rattle.world_model.specs.declared.event.Event.TheVariants.{Begin, Read, Write, Commit}
-use Rattle.world_model.specs.declared.event.When.TheVariants.{Own}
+use Rattle.world_model.specs.declared.event.Event.TheVariants.{Begin, Next, Read, Write, Commit, Abort, Mark}
+use Rattle.world_model.specs.declared.event.When.{When}
+use Rattle.world_model.specs.declared.event.When.TheVariants.{Own, At}
+use Rattle.world_model.specs.declared.event.Kind.{Kind}
+use Rattle.world_model.specs.declared.event.Kind.TheVariants as kind
 use Rattle.graph_shell.specs.declared.request.Request.{Request}
+use Rattle.graph_shell.specs.Words.{◌>>=◌, words_of, cut, number_below, name_of, oid_of, vertex_of}
+use Rattle.graph_shell.specs.Values.{json_value}
 
-infixl 10 ◌>>=◌
-abbrev pub ◌>>=◌ : {A B : Type 0} → Option A → (A → Option B) → Option B
-o >>= f = option_and_then f o
+-- ONE WORD
 
--- The pieces between the spaces: n spaces give n + 1 pieces, of which some may be empty.
-abbrev pub words_of : List ℕ → List (List ℕ)
-words_of line = slice_split (λ b. b == 32) line
-
--- NUMBERS
-
--- the number that decimal digits stand for, from the left
-abbrev pub value_of : List ℕ → ℕ
-value_of digits = fold (λ n digit. n * 10 + (digit - 48)) 0 digits
-
--- digits, and no zero in front of others
-abbrev pub is_number : List ℕ → Bool
-is_number [] = false
-is_number (c ∷ []) = is_ascii_digit c
-is_number (c ∷ d ∷ digits) = not (c == 48) && list_all is_ascii_digit (c ∷ d ∷ digits)
-
-abbrev pub number_of : List ℕ → Option ℕ
-number_of word = if is_number word then Some (value_of word) else None
-
-unfoldable pub number_below : ℕ → List ℕ → Option ℕ
-number_below limit word = do
-  n ← number_of word
-  if nat_lt n limit then Some n else None
-
--- Behind a minus the number isn't 0, and is at most 2 ^ 63.
-unfoldable pub negative_of : List ℕ → Option ℤ
-negative_of digits = do
-  n ← number_below (2 ^ 63 + 1) digits
-  if n == 0 then None else Some (neg_ℤ (pos n))
-
-unfoldable pub nonnegative_of : List ℕ → Option ℤ
-nonnegative_of word = option_map pos (number_below (2 ^ 63) word)
-
--- an integer of 64 bits, behind a minus where it is below 0
-unfoldable pub integer_of : List ℕ → Option ℤ
-integer_of [] = None
-integer_of (c ∷ cs) = if c == 45 then negative_of cs else nonnegative_of (c ∷ cs)
-
--- NAMES
-
--- a letter or `_`
-abbrev pub begins_name : ℕ → Bool
-begins_name c = is_ascii_alphabetic c || c == 95
-
--- a letter, a digit or `_`
-abbrev pub continues_name : ℕ → Bool
-continues_name c = is_ascii_alphanumeric c || c == 95
-
-abbrev pub is_name : List ℕ → Bool
-is_name [] = false
-is_name (c ∷ cs) = begins_name c && list_all continues_name cs
-
-unfoldable pub name_of : List ℕ → Option (List ℕ)
-name_of word = if is_name word then Some word else None
-
--- `v` or `e`, and a number
-unfoldable pub oid_of : List ℕ → Option Oid
-oid_of [] = None
-oid_of (kind ∷ digits) = do
-  n ← number_below (2 ^ 63) digits
-  if kind == 118 then Some (Vertex (record { 0 = n })) else if kind == 101 then Some (Edge (record { 0 = n })) else None
-
--- EVENTS
-
--- the event of one word
 unfoldable pub plain_event : List ℕ → Option Event
 plain_event verb =
     if bytes_eq verb (codes "begin") then Some Begin
     else if bytes_eq verb (codes "vertex") then Some (Write CreateVertex)
     else if bytes_eq verb (codes "commit") then Some Commit
+    else if bytes_eq verb (codes "abort") then Some Abort
+    else if bytes_eq verb (codes "mark") then Some Mark
     else None
 
-unfoldable pub read_event : List ℕ → Option Event
-read_event word = do
-  x ← oid_of word
-  Some (Read x Own)
+-- READS
 
-abbrev pub set_ask : Oid → List ℕ → ℤ → Ask
-set_ask (Vertex id) name n = SetVertexProp id name (Int n)
-set_ask (Edge id) name n = SetEdgeProp id name (Int n)
+-- `own`, or `at` and an instant
+unfoldable pub when_of : List (List ℕ) → Option When
+when_of (word ∷ []) = if bytes_eq word (codes "own") then Some Own else None
+when_of (word ∷ instant ∷ []) = if bytes_eq word (codes "at") then option_map At (number_below (2 ^ 63) instant) else None
+when_of words = None
 
-unfoldable pub set_event : List ℕ → List ℕ → List ℕ → Option Event
-set_event object property integer = do
+-- the words behind `read`
+unfoldable pub read_event : List (List ℕ) → Option Event
+read_event [] = None
+read_event (object ∷ words) = do
   x ← oid_of object
-  n ← integer_of integer
+  option_map (Read x) (when_of words)
+
+unfoldable pub kind_of : List ℕ → Option Kind
+kind_of word =
+    if bytes_eq word (codes "vertex") then Some kind.Vertex
+    else if bytes_eq word (codes "edge") then Some kind.Edge
+    else None
+
+-- the words behind `after`
+unfoldable pub next_after : Kind → List (List ℕ) → Option Event
+next_after kind [] = None
+next_after kind (number ∷ words) = do
+  n ← number_below (2 ^ 63) number
+  option_map (Next kind (Some n)) (when_of words)
+
+-- the words behind the kind
+unfoldable pub next_of : Kind → List (List ℕ) → Option Event
+next_of kind [] = None
+next_of kind (word ∷ words) =
+    if bytes_eq word (codes "first") then option_map (Next kind None) (when_of words)
+    else if bytes_eq word (codes "after") then next_after kind words
+    else None
+
+-- the words behind `next`
+unfoldable pub next_event : List (List ℕ) → Option Event
+next_event [] = None
+next_event (word ∷ words) = do
+  kind ← kind_of word
+  next_of kind words
+
+-- WRITES
+
+abbrev pub delete_ask : Oid → Ask
+delete_ask (oid.Vertex id) = DeleteVertex id
+delete_ask (oid.Edge id) = DeleteEdge id
+
+-- the words behind `delete`
+unfoldable pub delete_event : List (List ℕ) → Option Event
+delete_event (object ∷ []) = option_map (λ x. Write (delete_ask x)) (oid_of object)
+delete_event words = None
+
+-- the words behind `label`
+unfoldable pub label_event : List (List ℕ) → Option Event
+label_event (vertex ∷ label ∷ []) = do
+  id ← vertex_of vertex
+  name ← name_of label
+  Some (Write (AddLabel id name))
+label_event words = None
+
+-- the words behind `unlabel`
+unfoldable pub unlabel_event : List (List ℕ) → Option Event
+unlabel_event (vertex ∷ label ∷ []) = do
+  id ← vertex_of vertex
+  name ← name_of label
+  Some (Write (RemoveLabel id name))
+unlabel_event words = None
+
+-- the words behind `edge`
+unfoldable pub edge_event : List (List ℕ) → Option Event
+edge_event (source ∷ kind ∷ target ∷ []) = do
+  from ← vertex_of source
+  to ← vertex_of target
+  name ← name_of kind
+  Some (Write (CreateEdge from name to))
+edge_event words = None
+
+abbrev pub set_ask : Oid → List ℕ → Value → Ask
+set_ask (oid.Vertex id) name v = SetVertexProp id name v
+set_ask (oid.Edge id) name v = SetEdgeProp id name v
+
+-- the name and the value behind an object
+unfoldable pub property_event : Oid → List ℕ → List ℕ → Option Event
+property_event x property text = do
   name ← name_of property
-  Some (Write (set_ask x name n))
+  v ← json_value text
+  Some (Write (set_ask x name v))
 
--- the event of the words behind the caller
-unfoldable pub event_of : List (List ℕ) → Option Event
-event_of (verb ∷ []) = plain_event verb
-event_of (verb ∷ object ∷ when ∷ []) = if bytes_eq verb (codes "read") && bytes_eq when (codes "own") then read_event object else None
-event_of (verb ∷ object ∷ property ∷ integer ∷ []) = if bytes_eq verb (codes "set") then set_event object property integer else None
-event_of words = None
+-- the rest of the line behind `set`: an object, a name and a value
+unfoldable pub set_event : List ℕ → Option Event
+set_event text = do
+  first ← cut text
+  x ← oid_of first.0
+  second ← cut first.1
+  property_event x second.0 second.1
 
-unfoldable pub request_from_words : List (List ℕ) → Option Request
-request_from_words [] = None
-request_from_words (word ∷ words) = do
-  caller ← number_below (2 ^ 32) word
-  event ← event_of words
+-- EVENTS
+
+-- the event of two words and more
+unfoldable pub worded_event : List ℕ → List (List ℕ) → Option Event
+worded_event verb words =
+    if bytes_eq verb (codes "read") then read_event words
+    else if bytes_eq verb (codes "next") then next_event words
+    else if bytes_eq verb (codes "delete") then delete_event words
+    else if bytes_eq verb (codes "label") then label_event words
+    else if bytes_eq verb (codes "unlabel") then unlabel_event words
+    else if bytes_eq verb (codes "edge") then edge_event words
+    else None
+
+unfoldable pub words_event : List (List ℕ) → Option Event
+words_event [] = None
+words_event (verb ∷ []) = plain_event verb
+words_event (verb ∷ word ∷ words) = worded_event verb (word ∷ words)
+
+-- what a text asks for whose first word and the rest behind it are these
+abbrev pub parted_event : List ℕ → Option (List ℕ × List ℕ) → Option Event
+parted_event text None = words_event (words_of text)
+parted_event text (Some parts) = if bytes_eq parts.0 (codes "set") then set_event parts.1 else words_event (words_of text)
+
+-- what the text behind the caller asks for
+abbrev pub event_of : List ℕ → Option Event
+event_of text = parted_event text (cut text)
+
+unfoldable pub request_of : List ℕ → Option Request
+request_of line = do
+  parts ← cut line
+  caller ← number_below (2 ^ 32) parts.0
+  event ← event_of parts.1
   Some (record { caller = caller; event = event })
-
-abbrev pub request_of : List ℕ → Option Request
-request_of line = request_from_words (words_of line)
 
 -- SKIPPED LINES
 

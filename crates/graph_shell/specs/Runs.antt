@@ -1,7 +1,6 @@
 -- What is read, answered and written over a run.
 use Rattle.std.specs.Prelude.{◌≡◌, ◌≢◌, ◌⊎◌, ◌-◌, ◌<◌, ◌≤◌, ℕ, List, [], ◌∷◌, ◌++◌, Bool, Result, Ok, Err, Contains, length, take}
 use Rattle.world_model.specs.History.{Entry}
-use Rattle.front_core.specs.Keeps.{Kept}
 use Rattle.wire_line.specs.declared.line.TheConstants.{INPUT_LIMIT}
 use Rattle.wire_line.specs.declared.source.Source as source
 use Rattle.wire_line.specs.declared.sink.Sink as sink
@@ -76,24 +75,24 @@ pub record Run {I O : Type 0} (g : source.Ghosts I) (h : sink.Ghosts O) (input i
 -- ONE TURN
 
 -- The first of the lines ahead was answered, and it is given away.
-pub record AnswersNext (new : Kept) (text : List ℕ) (before after : Intake) (ahead rest : List ℕ)
+pub record AnswersNext (Stands : List Entry → Type 0) (text : List ℕ) (before after : Intake) (ahead rest : List ℕ)
     (es : List Entry) : Type 0 where
   pub there : ahead ≢ []
-  pub answers : AnswersLine (λ wanting w. answer_line wanting w (first_line ahead)) new text es
+  pub answers : AnswersLine (λ wanting w. answer_line wanting w (first_line ahead)) Stands text es
   pub behind : rest ≡ after_line ahead
   pub at_next : after.passing ≡ before.passing
 
 -- What a turn says of the bytes ahead: a line was answered, or there is none, or where the input stopped. It begins
 -- where no line is being passed over.
-abbrev pub Continues : Result Unit Ending → (new : Kept) (text : List ℕ) (before after : Intake) (left left' : List ℕ)
+abbrev pub Continues : Result Unit Ending → (Stands : List Entry → Type 0) → (text : List ℕ) (before after : Intake) (left left' : List ℕ)
     (es : List Entry) → Type 0
-Continues (Ok _) new text before after left left' es =
-    AnswersNext new text before after (before.waiting ++ left) (after.waiting ++ left') es
-Continues (Err Done) new text before after left left' es = IsEnd before (before.waiting ++ left) (after.waiting ++ left')
-Continues (Err SourceFault) new text before after left left' es = StillAhead before after left left' × HasNoEnd after.waiting
-Continues (Err SinkFault) new text before after left left' es = Unit {0}
-Continues (Err NoMemory) new text before after left left' es = Unit {0}
-Continues (Err Limit) new text before after left left' es =
+Continues (Ok _) Stands text before after left left' es =
+    AnswersNext Stands text before after (before.waiting ++ left) (after.waiting ++ left') es
+Continues (Err Done) Stands text before after left left' es = IsEnd before (before.waiting ++ left) (after.waiting ++ left')
+Continues (Err SourceFault) Stands text before after left left' es = StillAhead before after left left' × HasNoEnd after.waiting
+Continues (Err SinkFault) Stands text before after left left' es = Unit {0}
+Continues (Err NoMemory) Stands text before after left left' es = Unit {0}
+Continues (Err Limit) Stands text before after left left' es =
     before.taken ≤ INPUT_LIMIT → GoesPast (within_limit before) (before.waiting ++ left)
 
 -- How many bytes were taken before this ending: more than the limit exactly where that is the cause.

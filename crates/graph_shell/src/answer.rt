@@ -1,16 +1,13 @@
 ghost use Rattle.std.specs.Prelude.{◌≡◌, ◌<◌, [], ℕ, List, OnOk, string_bytes};
 ghost use Rattle.world_model.specs.History.{Entry};
 ghost use Rattle.front_core.specs.Keeps.{StandsFor, first_start};
-ghost use Rattle.world_model.specs.Replies.{asked_by};
 ghost use Rattle.graph_shell.specs.Events.{answer_short, AnswersLine};
 
 use crate::NoMemory;
 use crate::reply::{push_bad_line, push_reply};
 use crate::request::{Request, is_skipped, read_request};
 use front_core::Core;
-use graph_value::Oid;
 use std::alloc::Global;
-use world_model::Event;
 
 /// Answers a line that isn't too long, without its line end and carriage return: the reply is all that the text then
 /// holds, and it is empty where the line is skipped.
@@ -24,7 +21,8 @@ pub fn answer_line(
     reply: &mut String,
 ) -> Result<(), NoMemory>
     ensures { OnOk result ((es : List Entry) → StandsFor first_start core.old es →
-        AnswersLine (λ wanting w. answer_short wanting w line.now) core.new (string_bytes reply.new) es) }
+        AnswersLine (λ wanting w. answer_short wanting w line.now)
+        (StandsFor first_start core.new) (string_bytes reply.new) es) }
 {
     reply.clear();
     if is_skipped(line) {
@@ -33,19 +31,9 @@ pub fn answer_line(
     match read_request(alloc, line)? {
         None => push_bad_line(reply),
         Some(Request { caller, event }) => {
-            let asked = asked_by(&event);
+            let asked = event.asked();
             let answer = core.step(alloc, caller, event);
             push_reply(alloc, reply, caller, asked, &answer)
         }
-    }
-}
-
-/// The object that the event reads.
-fn asked_by(event: &Event) -> Option<Oid>
-    ensures { result ≡ asked_by event.now }
-{
-    match event {
-        Event::Read { x, .. } => Some(*x),
-        Event::Begin | Event::Write(_) | Event::Commit => None,
     }
 }

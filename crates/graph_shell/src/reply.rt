@@ -1,28 +1,30 @@
 ghost use Rattle.std.specs.Prelude.{◌≡◌, ◌++◌, OnOk, string_bytes};
 ghost use Rattle.graph_value.specs.Id.{oid_text};
-ghost use Rattle.world_model.specs.Replies.{IsAnswerTo, IsVersionOf};
-ghost use Rattle.graph_shell.specs.Reply.{answer_text, bad_line, refused_text, reply_text, rival_text, version_text, wrote_text};
+ghost use Rattle.world_model.specs.Replies.{IsAnswerTo, IsNumberAsked, IsVersionOf};
+ghost use Rattle.graph_shell.specs.Reply.{answer_text, bad_line, found_text, marked_text, numbered, refused_text, reply_text, rival_text, version_text, wrote_text};
 
 use crate::NoMemory;
 use graph_record::{Object, push_object_json};
-use graph_value::Oid;
+use graph_value::{EdgeId, Oid, VertexId};
 use std::alloc::Global;
 use std::fmt::Write;
 use txn_manager::Rival;
-use world_model::{Answer, Refused, Wrote};
+use world_model::{Answer, Asked, Kind, Marked, Refused, Wrote};
 
-/// Appends the line that answers a caller. `asked` is the object whose version the answer is; no other answer needs it.
+/// Appends the line that answers a caller. `asked` is the object whose version the answer is, or the kind of the object
+/// whose number it is; no other answer needs it.
 ///
 /// The error says that memory was wanting; a part of the line may then stand in the text.
 pub fn push_reply(
     alloc: Global,
     out: &mut String,
     caller: u64,
-    asked: Option<Oid>,
+    asked: Asked,
     answer: &Answer,
 ) -> Result<(), NoMemory>
     requires { IsAnswerTo asked answer.now }
-    ensures ok { OnOk result (string_bytes out.new ≡ string_bytes out.old ++ reply_text caller asked answer.now) }
+    ensures ok { OnOk result (string_bytes out.new ≡ string_bytes out.old
+        ++ reply_text caller asked answer.now) }
 {
     write!(out, "{caller} ")?;
     push_answer(alloc, out, asked, answer)?;
@@ -41,17 +43,21 @@ pub fn push_bad_line(out: &mut String) -> Result<(), NoMemory>
 fn push_answer(
     alloc: Global,
     out: &mut String,
-    asked: Option<Oid>,
+    asked: Asked,
     answer: &Answer,
 ) -> Result<(), NoMemory>
     requires { IsAnswerTo asked answer.now }
-    ensures ok { OnOk result (string_bytes out.new ≡ string_bytes out.old ++ answer_text asked answer.now) }
+    ensures ok { OnOk result (string_bytes out.new ≡ string_bytes out.old
+        ++ answer_text asked answer.now) }
 {
     match answer {
         Answer::Begun(start) => write!(out, "begin {start}"),
+        Answer::Id(id) => push_found(out, asked, *id),
         Answer::Version(object) => push_version(alloc, out, asked, object),
         Answer::Wrote(what) => push_wrote(out, *what),
         Answer::Committed(ts) => write!(out, "commit {ts}"),
+        Answer::Aborted => out.push_str("abort"),
+        Answer::Marked(marked) => push_marked(out, *marked),
         Answer::Refused(why) => push_refused(out, *why),
     }
 }
@@ -59,17 +65,47 @@ fn push_answer(
 fn push_version(
     alloc: Global,
     out: &mut String,
-    asked: Option<Oid>,
+    asked: Asked,
     object: &Object,
 ) -> Result<(), NoMemory>
     requires { IsVersionOf asked object.now }
-    ensures ok { OnOk result (string_bytes out.new ≡ string_bytes out.old ++ version_text asked object.now) }
+    ensures ok { OnOk result (string_bytes out.new ≡ string_bytes out.old
+        ++ version_text asked object.now) }
 {
     match (asked, object) {
         (_, Object::Dead) => out.push_str("dead"),
-        (Some(x), object) => push_object_json(alloc, out, x, object),
-        (None, _) => unreachable!(),
+        (Asked::Version(x), object) => push_object_json(alloc, out, x, object),
+        (Asked::Nothing | Asked::Number(_), _) => unreachable!(),
     }
+}
+
+fn push_found(out: &mut String, asked: Asked, id: Option<u64>) -> Result<(), NoMemory>
+    requires { IsNumberAsked asked }
+    ensures ok { OnOk result (string_bytes out.new ≡ string_bytes out.old ++ found_text asked id) }
+{
+    match (asked, id) {
+        (_, None) => out.push_str("none"),
+        (Asked::Number(kind), Some(n)) => push_oid(out, numbered(kind, n)),
+        (Asked::Nothing | Asked::Version(_), _) => unreachable!(),
+    }
+}
+
+/// The object of this kind under a number.
+fn numbered(kind: Kind, n: u64) -> Oid
+    ensures { result ≡ numbered kind n }
+{
+    match kind {
+        Kind::Vertex => Oid::Vertex(VertexId(n)),
+        Kind::Edge => Oid::Edge(EdgeId(n)),
+    }
+}
+
+fn push_marked(out: &mut String, marked: Marked) -> Result<(), NoMemory>
+    ensures ok { OnOk result (string_bytes out.new ≡ string_bytes out.old ++ marked_text marked) }
+{
+    let mark = marked.mark;
+    let clock = marked.clock;
+    write!(out, "mark {mark} clock {clock}")
 }
 
 fn push_wrote(out: &mut String, what: Wrote) -> Result<(), NoMemory>
@@ -79,6 +115,7 @@ fn push_wrote(out: &mut String, what: Wrote) -> Result<(), NoMemory>
         Wrote::Done => out.push_str("done"),
         Wrote::Unchanged => out.push_str("unchanged"),
         Wrote::Vertex(id) => push_oid(out, Oid::Vertex(id)),
+        Wrote::Edge(id) => push_oid(out, Oid::Edge(id)),
     }
 }
 
@@ -93,6 +130,8 @@ fn push_refused(out: &mut String, why: Refused) -> Result<(), NoMemory>
             push_oid(out, x)
         }
         Refused::Conflict(x, rival) => push_conflict(out, x, rival),
+        Refused::HasEdges(id) => push_has_edges(out, id),
+        Refused::TimeAhead { t, start } => push_time_ahead(out, t, start),
         Refused::ClockEnd => out.push_str("refused 7 clock end"),
         Refused::TooMany => out.push_str("refused 9 too many"),
         Refused::IdEnd => out.push_str("refused 10 id end"),
@@ -101,12 +140,31 @@ fn push_refused(out: &mut String, why: Refused) -> Result<(), NoMemory>
 }
 
 fn push_conflict(out: &mut String, x: Oid, rival: Rival) -> Result<(), NoMemory>
-    ensures ok { OnOk result (string_bytes out.new ≡ string_bytes out.old ++ refused_text (Refused.Conflict x rival)) }
+    ensures ok { OnOk result (string_bytes out.new ≡ string_bytes out.old
+        ++ refused_text (Refused.Conflict x rival)) }
 {
     out.push_str("refused 4 conflict ")?;
     push_oid(out, x)?;
     out.push_str(" ")?;
     push_rival(out, rival)
+}
+
+fn push_has_edges(out: &mut String, id: VertexId) -> Result<(), NoMemory>
+    ensures ok { OnOk result (string_bytes out.new ≡ string_bytes out.old
+        ++ refused_text (Refused.HasEdges id)) }
+{
+    out.push_str("refused 5 ")?;
+    out.push_str("has edges ")?;
+    push_oid(out, Oid::Vertex(id))
+}
+
+fn push_time_ahead(out: &mut String, t: u64, start: u64) -> Result<(), NoMemory>
+    ensures ok { OnOk result (string_bytes out.new ≡ string_bytes out.old
+        ++ refused_text (Refused.TimeAhead t start)) }
+{
+    out.push_str("refused 6 ")?;
+    out.push_str("time ")?;
+    write!(out, "ahead {t} start {start}")
 }
 
 fn push_rival(out: &mut String, rival: Rival) -> Result<(), NoMemory>

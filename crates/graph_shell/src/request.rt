@@ -1,16 +1,23 @@
 ghost use Rattle.std.specs.Prelude.{◌≡◌, ◌==◌, IfOk, map};
 ghost use Rattle.std.specs.List.{list_all};
-ghost use Rattle.graph_shell.specs.Request.{event_of, is_blank, is_skipped, plain_event, read_event, request_from_words, request_of, set_event};
+ghost use Rattle.graph_shell.specs.Request.{event_of, is_blank, is_skipped, plain_event, request_of, words_event, worded_event};
+ghost use Rattle.graph_shell.specs.Words.{words_of};
 
 mod number;
 mod object;
+mod reads;
+mod values;
+mod words;
+mod writes;
 
 use crate::NoMemory;
-use graph_value::{Oid, Value};
-use number::{integer, number_below};
-use object::{name, oid};
+use number::number_below;
+use reads::{next_event, read_event};
 use std::alloc::Global;
-use world_model::{Ask, Event, When};
+use undo_delta::Ask;
+use words::{cut, is_space};
+use world_model::Event;
+use writes::{delete_event, edge_event, label_event, set_event, unlabel_event};
 
 /// What one line asks for.
 #[derive(Drop)]
@@ -18,12 +25,6 @@ pub struct Request {
     /// Who asks, below 2^32.
     pub caller: u64,
     pub event: Event,
-}
-
-fn is_space(b: &u8) -> bool
-    ensures { result ≡ (b.now == 32) }
-{
-    *b == b' '
 }
 
 /// Whether a line has nothing but spaces and tabs.
@@ -43,66 +44,63 @@ pub fn is_skipped(line: &[u8]) -> bool
     }
 }
 
-/// The most words that a request has.
-const MOST_WORDS: usize = 5;
-
 /// The request that a line is, or `None` where it is none. The line comes without its end. Its words take no memory.
 ///
-/// The error says that memory was wanting for a name.
+/// The error says that memory was wanting for a name or a value.
+#[tactic(auto, unfolding(crate::specs::Request::request_of))]
 pub fn read_request(alloc: Global, line: &[u8]) -> Result<Option<Request>, NoMemory>
     ensures { IfOk result (λ r. r ≡ request_of line.now) }
 {
+    let Some((word, text)) = cut(line) else {
+        return Ok(None);
+    };
+    let Some(caller) = number_below(word, 1 << 32) else {
+        return Ok(None);
+    };
+    let Some(event) = event(alloc, text)? else {
+        return Ok(None);
+    };
+    Ok(Some(Request { caller, event }))
+}
+
+/// What the text behind the caller asks for.
+fn event(alloc: Global, text: &[u8]) -> Result<Option<Event>, NoMemory>
+    ensures { IfOk result (λ e. e ≡ event_of text.now) }
+{
+    match cut(text) {
+        Some((verb, rest)) if verb == b"set".as_slice() => set_event(alloc, rest),
+        _ => split_event(alloc, text),
+    }
+}
+
+/// The most words that stand behind a caller, where no value is set.
+const MOST_WORDS: usize = 6;
+
+/// What a text asks for that sets no value.
+fn split_event(alloc: Global, text: &[u8]) -> Result<Option<Event>, NoMemory>
+    ensures { IfOk result (λ e. e ≡ words_event (words_of text.now)) }
+{
     let mut words: [&[u8]; MOST_WORDS] = [&[]; MOST_WORDS];
     let mut count = 0;
-    for word in line.split(is_space) {
+    for word in text.split(is_space) {
         if count == MOST_WORDS {
             return Ok(None);
         }
         words[count] = word;
         count += 1;
     }
-    request_from_words(alloc, &words[..count])
+    words_event(alloc, &words[..count])
 }
 
-/// The request whose words these are.
-#[tactic(auto, unfolding(crate::specs::Request::request_from_words))]
-fn request_from_words(alloc: Global, words: &[&[u8]]) -> Result<Option<Request>, NoMemory>
-    ensures { IfOk result (λ r. r ≡ request_from_words (map (λ w. w.now) words.now)) }
-{
-    let [word, words @ ..] = words else {
-        return Ok(None);
-    };
-    let Some(caller) = number_below(word, 1 << 32) else {
-        return Ok(None);
-    };
-    let Some(event) = event(alloc, words)? else {
-        return Ok(None);
-    };
-    Ok(Some(Request { caller, event }))
-}
-
-/// What the words behind the caller ask for.
-#[tactic(auto, unfolding(crate::specs::Request::event_of))]
-fn event(alloc: Global, words: &[&[u8]]) -> Result<Option<Event>, NoMemory>
-    ensures { IfOk result (λ e. e ≡ event_of (map (λ w. w.now) words.now)) }
+/// What these words ask for.
+#[tactic(auto, unfolding(crate::specs::Request::words_event))]
+fn words_event(alloc: Global, words: &[&[u8]]) -> Result<Option<Event>, NoMemory>
+    ensures { IfOk result (λ e. e ≡ words_event (map (λ w. w.now) words.now)) }
 {
     match words {
+        [] => Ok(None),
         [verb] => Ok(plain_event(verb)),
-        [verb, object, when] => {
-            if *verb == b"read".as_slice() && *when == b"own".as_slice() {
-                Ok(read_event(object))
-            } else {
-                Ok(None)
-            }
-        }
-        [verb, object, property, value] => {
-            if *verb == b"set".as_slice() {
-                set_event(alloc, object, property, value)
-            } else {
-                Ok(None)
-            }
-        }
-        _ => Ok(None),
+        [verb, words @ ..] => worded_event(alloc, verb, words),
     }
 }
 
@@ -117,44 +115,35 @@ fn plain_event(verb: &[u8]) -> Option<Event>
         Some(Event::Write(Ask::CreateVertex))
     } else if verb == b"commit".as_slice() {
         Some(Event::Commit)
+    } else if verb == b"abort".as_slice() {
+        Some(Event::Abort)
+    } else if verb == b"mark".as_slice() {
+        Some(Event::Mark)
     } else {
         None
     }
 }
 
-/// The read of an object in the caller's own view.
-#[tactic(auto, unfolding(crate::specs::Request::read_event))]
-fn read_event(object: &[u8]) -> Option<Event>
-    ensures { result ≡ read_event object.now }
+/// An event that is said by its verb and the words behind it.
+#[tactic(auto, unfolding(crate::specs::Request::worded_event))]
+fn worded_event(alloc: Global, verb: &[u8], words: &[&[u8]]) -> Result<Option<Event>, NoMemory>
+    ensures { IfOk result (λ e. e ≡ worded_event verb.now (map (λ w. w.now) words.now)) }
 {
-    let x = oid(object)?;
-    Some(Event::Read { x, when: When::Own })
-}
-
-/// The write of an integer under a name.
-#[tactic(auto, unfolding(crate::specs::Request::set_event))]
-fn set_event(
-    alloc: Global,
-    object: &[u8],
-    property: &[u8],
-    value: &[u8],
-) -> Result<Option<Event>, NoMemory>
-    ensures { IfOk result (λ e. e ≡ set_event object.now property.now value.now) }
-{
-    let Some(x) = oid(object) else {
-        return Ok(None);
-    };
-    let Some(n) = integer(value) else {
-        return Ok(None);
-    };
-    let Some(name) = name(alloc, property)? else {
-        return Ok(None);
-    };
-    let ask = match x {
-        Oid::Vertex(id) => Ask::SetVertexProp(id, name, Value::Int(n)),
-        Oid::Edge(id) => Ask::SetEdgeProp(id, name, Value::Int(n)),
-    };
-    Ok(Some(Event::Write(ask)))
+    if verb == b"read".as_slice() {
+        Ok(read_event(words))
+    } else if verb == b"next".as_slice() {
+        Ok(next_event(words))
+    } else if verb == b"delete".as_slice() {
+        Ok(delete_event(words))
+    } else if verb == b"label".as_slice() {
+        label_event(alloc, words)
+    } else if verb == b"unlabel".as_slice() {
+        unlabel_event(alloc, words)
+    } else if verb == b"edge".as_slice() {
+        edge_event(alloc, words)
+    } else {
+        Ok(None)
+    }
 }
 
 #[cfg(test)]

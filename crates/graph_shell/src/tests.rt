@@ -9,6 +9,9 @@ use std::io;
 use std::test::Fail;
 use wire_line::{MemorySink, MemorySource, SameBytes, Source};
 
+mod ends;
+mod rows;
+
 /// What a source gives.
 #[derive(Clone, Copy)]
 enum Input {
@@ -99,7 +102,7 @@ const CASES: [Case; 18] = [
     },
     Case {
         name: "a bad line of very many words",
-        input: Input::Filled(b"1 set v0 k 1", 65_524, b"\n1 begin\n"),
+        input: Input::Filled(b"1 read v0 own", 65_523, b"\n1 begin\n"),
         filling: b' ',
         output: b"- refused 12 bad line\n1 begin 1\n",
         ..PLAIN

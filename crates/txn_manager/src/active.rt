@@ -49,7 +49,8 @@ impl Active {
         ensures accepted { OnOk result (begin_refusal self.old caller ≡ None) }
         ensures start { IfOk result (λ start. start ≡ self.old.clock) }
         ensures begun { OnOk result (self.new ≡ begun self.old caller) }
-        ensures reason { IfErr result (λ why. (begin_refusal self.old caller ≡ Some why) ⊎ (why ≡ BeginRefused.NoMemory)) }
+        ensures reason { IfErr result (λ why.
+            (begin_refusal self.old caller ≡ Some why) ⊎ (why ≡ BeginRefused.NoMemory)) }
         ensures unchanged { OnErr result (self.new ≡ self.old) }
         ensures ready { IsReady self.new }
     {
@@ -65,7 +66,8 @@ impl Active {
         Ok(start)
     }
 
-    /// Ends the caller's transaction, and gives its timestamp: the clock, which rises by one, where it wrote, else its start.
+    /// Ends the caller's transaction, and gives its timestamp: the clock, which rises by one, where it wrote, else its
+    /// start.
     pub fn finish(&mut self, caller: u64, wrote: bool) -> u64
         requires { IsSome (start_of self.old.running caller) }
         ensures written { IsTrue wrote → result ≡ self.old.clock }
@@ -127,8 +129,8 @@ impl Active {
         self.running.len() as u64
     }
 
-    /// Why the caller cannot begin a transaction now.
-    fn refusal(&self, caller: u64) -> Option<BeginRefused>
+    /// Why the caller cannot begin a transaction now, `None` where it can.
+    pub fn refusal(&self, caller: u64) -> Option<BeginRefused>
         ensures { result ≡ begin_refusal self.now caller }
     {
         if self.start_of(caller).is_some() {

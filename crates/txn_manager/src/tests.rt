@@ -2,6 +2,7 @@ use super::*;
 
 #[derive(Drop)]
 enum Step {
+    Refusal(u64, Option<BeginRefused>),
     Begin(u64, Result<u64, BeginRefused>),
     Finish(u64, bool, u64),
     GiveUp(u64),
@@ -14,6 +15,7 @@ enum Step {
 // Makes the step, and says whether it gave what the table wants.
 fn gives(active: &mut Active, step: &Step) -> bool {
     match step {
+        Step::Refusal(caller, want) => active.refusal(*caller) == *want,
         Step::Begin(caller, want) => active.begin(*caller) == *want,
         Step::Finish(caller, wrote, want) => {
             active.start_of(*caller).is_some() && active.finish(*caller, *wrote) == *want
@@ -41,6 +43,8 @@ fn transactions_in_turn(rt: HostRuntime) {
         Step::Begin(2, Ok(2)),
         Step::Mark(1),
         Step::Count(2),
+        Step::Refusal(1, Some(BeginRefused::AlreadyOpen)),
+        Step::Refusal(3, None),
         Step::Begin(1, Err(BeginRefused::AlreadyOpen)),
         Step::Finish(1, true, 3),
         Step::Mark(2),

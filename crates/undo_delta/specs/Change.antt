@@ -21,6 +21,9 @@ use Rattle.undo_delta.specs.Apply.{after, after_some, with_property}
 use Rattle.undo_delta.specs.declared.delta.Delta.{Delta}
 use Rattle.undo_delta.specs.declared.delta.Delta.TheVariants as delta
 use Rattle.undo_delta.specs.declared.delta.DeltaPair.{DeltaPair}
+use Rattle.undo_delta.specs.declared.edge_change.EdgeDeltas.{EdgeDeltas}
+use Rattle.undo_delta.specs.declared.edge_change.LoopDeltas.{LoopDeltas}
+use Rattle.undo_delta.specs.declared.op.Joined.{Joined}
 use Rattle.undo_delta.specs.declared.op.Op.{Op}
 use Rattle.undo_delta.specs.declared.op.Op.TheVariants.{CreateVertex, DeleteVertex, AddLabel, RemoveLabel, SetVertexProp, CreateEdge, DeleteEdge, SetEdgeProp}
 
@@ -171,3 +174,18 @@ deltas_of (SetEdgeProp e name value) x o = property_deltas name value o
 -- the object after both deltas, the newer undone first
 abbrev pub undone_by : DeltaPair → Object → Object
 undone_by pair o = after_some (after_some o pair.second) pair.first
+
+-- the deltas that a write leaves on an edge that it makes or deletes, and on its two ends
+abbrev pub edge_deltas_of : Op → Joined → Object → Object → Object → EdgeDeltas
+edge_deltas_of op j from to edge = record {
+  from = deltas_of op (oid.Vertex j.from) from;
+  to = deltas_of op (oid.Vertex j.to) to;
+  edge = deltas_of op (oid.Edge j.edge) edge;
+}
+
+-- and where both ends are one vertex
+abbrev pub loop_deltas_of : Op → Joined → Object → Object → LoopDeltas
+loop_deltas_of op j end edge = record {
+  end = deltas_of op (oid.Vertex j.from) end;
+  edge = deltas_of op (oid.Edge j.edge) edge;
+}

@@ -1,9 +1,10 @@
 -- Which objects a write touches.
-use Rattle.std.specs.Prelude.{List, [], ◌∷◌, Bool, false, nat_eq, cond}
+use Rattle.std.specs.Prelude.{List, [], ◌∷◌, Option, Some, None, Bool, false, nat_eq, cond}
 use Rattle.std.specs.List.{list_any}
 use Rattle.graph_value.specs.declared.id.VertexId.{VertexId}
 use Rattle.graph_value.specs.declared.id.Oid.{Oid}
 use Rattle.graph_value.specs.declared.id.Oid.TheVariants as oid
+use Rattle.undo_delta.specs.declared.op.Joined.{Joined}
 use Rattle.undo_delta.specs.declared.op.Op.{Op}
 use Rattle.undo_delta.specs.declared.op.Op.TheVariants.{CreateVertex, DeleteVertex, AddLabel, RemoveLabel, SetVertexProp, CreateEdge, DeleteEdge, SetEdgeProp}
 
@@ -21,6 +22,17 @@ touches (SetVertexProp v name value) = oid.Vertex v ∷ []
 touches (CreateEdge e from kind to) = ends from to (oid.Edge e ∷ [])
 touches (DeleteEdge e from to) = ends from to (oid.Edge e ∷ [])
 touches (SetEdgeProp e name value) = oid.Edge e ∷ []
+
+-- the edge that a write makes or deletes, with its ends
+abbrev pub joined : Op → Option Joined
+joined (CreateVertex v) = None
+joined (DeleteVertex v) = None
+joined (AddLabel v name) = None
+joined (RemoveLabel v name) = None
+joined (SetVertexProp v name value) = None
+joined (CreateEdge e from kind to) = Some (record { edge = e; from = from; to = to })
+joined (DeleteEdge e from to) = Some (record { edge = e; from = from; to = to })
+joined (SetEdgeProp e name value) = None
 
 abbrev pub same_oid : Oid → Oid → Bool
 same_oid (oid.Vertex a) (oid.Vertex b) = nat_eq a.0 b.0

@@ -6,10 +6,11 @@ ghost use Rattle.graph_record.specs.Form.{IsForm};
 ghost use Rattle.undo_delta.specs.Touch.{is_touched};
 ghost use Rattle.undo_delta.specs.declared.delta.Delta.TheVariants as delta;
 
+use crate::edge_change::edge_record;
 use crate::edit::{add_label, remove_label, set_value};
 use crate::ends::{link, unlink};
 use crate::{Delta, DeltaPair, Former, NoMemory, Op};
-use graph_record::{EdgeRecord, Kind, Object, Properties, VertexRecord};
+use graph_record::{Object, VertexRecord};
 use graph_value::{Name, Oid, VertexId};
 use std::alloc::Global;
 
@@ -88,17 +89,8 @@ fn make_edge(
     ensures deltas { IfOk result (λ pair. pair ≡ one_delta delta.DeleteObject) }
     ensures err { OnErr result (object.new ≡ object.old) }
 {
-    let kind = Kind::new(alloc, kind.copy(alloc)?)?;
-    let props = Properties::new(alloc);
-    put_object(
-        object,
-        Object::Edge(EdgeRecord {
-            kind,
-            from,
-            to,
-            props,
-        }),
-    );
+    let record = edge_record(alloc, from, kind, to)?;
+    put_object(object, Object::Edge(record));
     Ok(DeltaPair::one(Delta::DeleteObject))
 }
 

@@ -1,11 +1,13 @@
 //! The edges that a vertex lists: among those that leave it, and among those that come to it.
-ghost use Rattle.std.specs.Prelude.{◌≡◌, IfOk, OnOk, OnErr, IsTrue, true};
+ghost use Rattle.std.specs.Prelude.{◌≡◌, IfOk, OnOk, OnErr, IsTrue, true, false};
+ghost use Rattle.graph_record.specs.Ascending.{edge_cmp};
+ghost use Rattle.graph_record.specs.Edits.{added, removed};
 ghost use Rattle.graph_record.specs.declared.object.Object.TheVariants.{Vertex};
 ghost use Rattle.undo_delta.specs.Change.{linked, unlinked, end_deltas, is_free_of, has_ends};
 ghost use Rattle.undo_delta.specs.declared.delta.Delta.TheVariants as delta;
 
 use crate::{Delta, DeltaPair, NoMemory};
-use graph_record::{Object, VertexRecord};
+use graph_record::{EdgeIds, Object, VertexRecord};
 use graph_value::EdgeId;
 
 /// Puts a new edge into the lists of a vertex that is its start, its end or both. Without memory nothing changes.
@@ -39,7 +41,7 @@ fn link_vertex(
     ensures err { OnErr result (vertex.new ≡ vertex.old) }
 {
     match (leaves, comes) {
-        (true, true) => link_loop(vertex, id),
+        (true, true) => link_lists(&mut vertex.outs, &mut vertex.ins, id),
         (true, false) => {
             vertex.outs.add(id)?;
             Ok(())
@@ -52,35 +54,57 @@ fn link_vertex(
     }
 }
 
-/// Puts an edge from a vertex to itself into both lists. Where its id is the greatest, no list is copied for the case
-/// that memory is wanting for the second.
-fn link_loop(vertex: &mut VertexRecord, id: EdgeId) -> Result<(), NoMemory>
-    requires { IsTrue (is_free_of id (Vertex vertex.old)) }
-    ensures vertex { OnOk result (Vertex vertex.new ≡ linked true true id (Vertex vertex.old)) }
-    ensures err { OnErr result (vertex.new ≡ vertex.old) }
+/// Puts a new edge into the list of what leaves its start and into that of what comes to its end, or into neither.
+/// Where its id is the greatest, no list is copied for the case that memory is wanting for the second.
+fn link_lists(outs: &mut EdgeIds, ins: &mut EdgeIds, id: EdgeId) -> Result<(), NoMemory>
+    ensures outs { OnOk result (outs.new ≡ added edge_cmp id outs.old) }
+    ensures ins { OnOk result (ins.new ≡ added edge_cmp id ins.old) }
+    ensures outs_stay { OnErr result (outs.new ≡ outs.old) }
+    ensures ins_stay { OnErr result (ins.new ≡ ins.old) }
 {
-    if !vertex.outs.is_below(id) {
-        return link_loop_aside(vertex, id);
+    if !outs.is_below(id) {
+        return link_lists_aside(outs, ins, id);
     }
-    vertex.outs.add(id)?;
-    match vertex.ins.add(id) {
+    outs.add(id)?;
+    match ins.add(id) {
         Ok(_) => Ok(()),
         Err(error) => {
-            vertex.outs.pop();
+            outs.pop();
             Err(error)
         }
     }
 }
 
-fn link_loop_aside(vertex: &mut VertexRecord, id: EdgeId) -> Result<(), NoMemory>
-    ensures vertex { OnOk result (Vertex vertex.new ≡ linked true true id (Vertex vertex.old)) }
-    ensures err { OnErr result (vertex.new ≡ vertex.old) }
+/// The same for an id that is not the greatest: the list with it is made aside first.
+fn link_lists_aside(outs: &mut EdgeIds, ins: &mut EdgeIds, id: EdgeId) -> Result<(), NoMemory>
+    ensures outs { OnOk result (outs.new ≡ added edge_cmp id outs.old) }
+    ensures ins { OnOk result (ins.new ≡ added edge_cmp id ins.old) }
+    ensures outs_stay { OnErr result (outs.new ≡ outs.old) }
+    ensures ins_stay { OnErr result (ins.new ≡ ins.old) }
 {
-    let mut outs = vertex.outs.copy()?;
-    outs.add(id)?;
-    vertex.ins.add(id)?;
-    vertex.outs = outs;
+    let mut longer = outs.copy()?;
+    longer.add(id)?;
+    ins.add(id)?;
+    *outs = longer;
     Ok(())
+}
+
+/// Puts a new edge into the lists of its two ends, or into neither.
+pub(crate) fn link_both(from: &mut Object, to: &mut Object, id: EdgeId) -> Result<(), NoMemory>
+    requires from { IsTrue (is_free_of id from.old) }
+    requires to { IsTrue (is_free_of id to.old) }
+    ensures from { OnOk result (from.new ≡ linked true false id from.old) }
+    ensures to { OnOk result (to.new ≡ linked false true id to.old) }
+    ensures from_stays { OnErr result (from.new ≡ from.old) }
+    ensures to_stays { OnErr result (to.new ≡ to.old) }
+{
+    match from {
+        Object::Vertex(start) => match to {
+            Object::Vertex(end) => link_lists(&mut start.outs, &mut end.ins, id),
+            _ => unreachable!(),
+        },
+        _ => unreachable!(),
+    }
 }
 
 /// Takes an edge out of the lists of a vertex that is its start, its end or both. Without memory nothing changes.
@@ -113,7 +137,7 @@ fn unlink_vertex(
     ensures err { OnErr result (vertex.new ≡ vertex.old) }
 {
     match (leaves, comes) {
-        (true, true) => unlink_loop(vertex, id),
+        (true, true) => unlink_lists(&mut vertex.outs, &mut vertex.ins, id),
         (true, false) => {
             vertex.outs.remove(id)?;
             Ok(())
@@ -126,20 +150,41 @@ fn unlink_vertex(
     }
 }
 
-/// Takes an edge from a vertex to itself out of both lists: the one without it is made aside first.
-fn unlink_loop(vertex: &mut VertexRecord, id: EdgeId) -> Result<(), NoMemory>
-    ensures vertex { OnOk result (Vertex vertex.new ≡ unlinked true true id (Vertex vertex.old)) }
-    ensures err { OnErr result (vertex.new ≡ vertex.old) }
+/// Takes an edge out of the list of what leaves its start and out of that of what comes to its end, or out of neither:
+/// the one without it is made aside first.
+fn unlink_lists(outs: &mut EdgeIds, ins: &mut EdgeIds, id: EdgeId) -> Result<(), NoMemory>
+    ensures outs { OnOk result (outs.new ≡ removed edge_cmp id outs.old) }
+    ensures ins { OnOk result (ins.new ≡ removed edge_cmp id ins.old) }
+    ensures outs_stay { OnErr result (outs.new ≡ outs.old) }
+    ensures ins_stay { OnErr result (ins.new ≡ ins.old) }
 {
-    let mut outs = vertex.outs.copy()?;
-    outs.remove(id)?;
-    vertex.ins.remove(id)?;
-    vertex.outs = outs;
+    let mut shorter = outs.copy()?;
+    shorter.remove(id)?;
+    ins.remove(id)?;
+    *outs = shorter;
     Ok(())
 }
 
+/// Takes an edge out of the lists of its two ends, or out of neither.
+pub(crate) fn unlink_both(from: &mut Object, to: &mut Object, id: EdgeId) -> Result<(), NoMemory>
+    requires from { IsTrue (has_ends true false id from.old) }
+    requires to { IsTrue (has_ends false true id to.old) }
+    ensures from { OnOk result (from.new ≡ unlinked true false id from.old) }
+    ensures to { OnOk result (to.new ≡ unlinked false true id to.old) }
+    ensures from_stays { OnErr result (from.new ≡ from.old) }
+    ensures to_stays { OnErr result (to.new ≡ to.old) }
+{
+    match from {
+        Object::Vertex(start) => match to {
+            Object::Vertex(end) => unlink_lists(&mut start.outs, &mut end.ins, id),
+            _ => unreachable!(),
+        },
+        _ => unreachable!(),
+    }
+}
+
 /// One delta for each end that the vertex is, the one for the edge's start the older.
-fn linked_deltas(id: EdgeId, leaves: bool, comes: bool) -> DeltaPair
+pub(crate) fn linked_deltas(id: EdgeId, leaves: bool, comes: bool) -> DeltaPair
     ensures { result ≡ end_deltas leaves comes (delta.RemoveOutEdge id) (delta.RemoveInEdge id) }
 {
     match (leaves, comes) {
@@ -154,7 +199,7 @@ fn linked_deltas(id: EdgeId, leaves: bool, comes: bool) -> DeltaPair
 }
 
 /// One delta for each end that the vertex was, the one for the edge's start the older.
-fn unlinked_deltas(id: EdgeId, leaves: bool, comes: bool) -> DeltaPair
+pub(crate) fn unlinked_deltas(id: EdgeId, leaves: bool, comes: bool) -> DeltaPair
     ensures { result ≡ end_deltas leaves comes (delta.AddOutEdge id) (delta.AddInEdge id) }
 {
     match (leaves, comes) {

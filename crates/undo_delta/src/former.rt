@@ -27,15 +27,31 @@ impl Model for Former {
 }
 
 impl Former {
+    /// Room for an object that is going to be deleted: a dead one, until [`Former::swap`] puts that there.
+    pub fn room(alloc: Global) -> Result<Former, NoMemory>
+        ensures { IfOk result (λ f. f ≡ Dead) }
+    {
+        let object = Box::new(alloc, Object::Dead)?;
+        Ok(Former { object })
+    }
+
+    /// Puts each in the place of the other. It takes no memory.
+    pub fn swap(&mut self, object: &mut Object)
+        ensures former { self.new ≡ object.old }
+        ensures object { object.new ≡ self.old }
+    {
+        mem::swap(&mut *self.object, object);
+    }
+
     /// Takes the object, and leaves a dead one. Without memory nothing changes.
     pub fn take(alloc: Global, object: &mut Object) -> Result<Former, NoMemory>
         ensures ok { OnOk result (object.new ≡ Dead) }
         ensures former { IfOk result (λ f. f ≡ object.old) }
         ensures err { OnErr result (object.new ≡ object.old) }
     {
-        let mut former = Box::new(alloc, Object::Dead)?;
-        *former = mem::replace(object, Object::Dead);
-        Ok(Former { object: former })
+        let mut former = Former::room(alloc)?;
+        former.swap(object);
+        Ok(former)
     }
 
     pub fn as_object(&self) -> &Object

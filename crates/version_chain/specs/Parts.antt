@@ -8,6 +8,11 @@ use Rattle.version_chain.specs.declared.entry.Entry.{Entry}
 use Rattle.version_chain.specs.Entry.{is_open, is_after, is_before, is_not_before, dated}
 use Rattle.version_chain.specs.Order.{IsInOrder}
 
+-- the entries of a chain, and for how many more there is room
+pub record Entries (D : Type 0) : Type 0 where
+  pub entries : List (Entry D)
+  pub room : ℕ
+
 abbrev pub deltas_of : {D : Type 0} → List (Entry D) → List D
 deltas_of entries = map (λ e. e.delta) entries
 

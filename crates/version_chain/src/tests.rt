@@ -89,22 +89,43 @@ fn the_newest_open_delta_is_taken_off(rt: HostRuntime) -> Result<(), Fail> {
     Ok(())
 }
 
+/// Reserves room for two deltas, and fills it with 7 and then 8.
+fn fill_reserved(alloc: Global, chain: &mut Chain<Digits>) -> Result<(), NoMemory> {
+    chain.reserve(alloc, 2)?;
+    chain.push_reserved(7);
+    chain.push_reserved(8);
+    Ok(())
+}
+
+#[test]
+fn reserved_room_is_filled(rt: HostRuntime) -> Result<(), Fail> {
+    let mut chain = Chain::new(rt.alloc());
+    fill_reserved(rt.alloc(), &mut chain)?;
+    commit(&rt, &mut chain, 4);
+    fill_reserved(rt.alloc(), &mut chain)?;
+    let list = listed(rt.alloc(), &chain)?;
+    let wanted = [(None, 8), (None, 7), (Some(4), 8), (Some(4), 7)];
+    assert_eq!(rt; list.as_slice(), wanted.as_slice());
+    Ok(())
+}
+
 #[test]
 fn versions_are_undone(rt: HostRuntime) -> Result<(), Fail> {
     let chain = sample(&rt, rt.alloc())?;
     let rows = [
-        (0, 9654321),
-        (2, 9654321),
-        (3, 965432),
-        (4, 965432),
-        (5, 9654),
-        (6, 9654),
-        (7, 965),
-        (u64::MAX, 965),
+        (0, 9654321, 6),
+        (2, 9654321, 6),
+        (3, 965432, 5),
+        (4, 965432, 5),
+        (5, 9654, 3),
+        (6, 9654, 3),
+        (7, 965, 2),
+        (u64::MAX, 965, 2),
     ];
-    for (t, wanted) in rows {
+    for (t, wanted, count) in rows {
         let object = chain.version_at(rt.alloc(), &9, t)?;
         assert_eq!(rt; object, wanted, "at {t}");
+        assert_eq!(rt; chain.count_after(t), count, "after {t}");
     }
     Ok(())
 }

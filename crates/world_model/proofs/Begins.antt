@@ -9,7 +9,8 @@ use Rattle.txn_manager.specs.Transactions.{IsReady, begin_refusal}
 use Rattle.txn_manager.proofs.TransactionsLemmas.{IsReady-begun, may_begin}
 use Rattle.world_model.specs.Op.{are_touching, are_below, are_sound}
 use Rattle.world_model.specs.World.{World, Txn, find_txn, transactions_of, InOrder, fold_of, before}
-use Rattle.world_model.specs.Step.{or_else, begun_world}
+use Rattle.world_model.specs.Refusals.{or_else}
+use Rattle.world_model.specs.Step.{begun_world}
 use Rattle.world_model.proofs.Txns.{find_txn-append}
 use Rattle.world_model.proofs.Lists.{map-one, none_at_clock, stamped-more}
 

@@ -1,4 +1,4 @@
--- A commit leaves a world in order.
+-- A commit leaves a world in order, and so does an abort.
 use Rattle.std.proofs.Common.{◌≡◌, ◌≢◌, ℕ, ◌+◌, ◌<◌, ◌≤◌, List, [], ◌∷◌, ◌++◌, Some, None, Bool, true, false, ◌&&◌, cond, refl, sym, ap, ◌∙◌, arith}
 use Rattle.std.specs.Prelude.{nat_eq, nat_lt, nat_le}
 use Rattle.std.proofs.lemmas.Bool.{false≢true}
@@ -21,10 +21,6 @@ left_found c ps d q h = pick (nat_eq c d) (sym (find_txn-without c ps d) ∙ h)
     pick true e = absurd cc
     pick false e = (refl, e)
 
--- the caller's transaction is gone, and nothing else has changed
-pub left_world : World → ℕ → World
-left_world w c = record w { running = without c w.running }
-
 -- a commit at the clock
 abbrev pub commit_at : World → List Op → Commit
 commit_at w ops = record { ts = w.clock; ops = ops }
@@ -32,8 +28,9 @@ commit_at w ops = record { ts = w.clock; ops = ops }
 different : (c d : ℕ) → nat_eq c d ≡ false → d ≢ c
 different c d h same = false≢true (sym h ∙ grind (arith, nat_tests))
 
-pub empty_commit_keeps_order : (w : World) (c : ℕ) (p : Txn) → InOrder w → txn_of w c ≡ Some p → InOrder (record w { running = without c w.running })
-empty_commit_keeps_order w c p o open_p =
+-- the caller's transaction is gone, and nothing else has changed: an abort, or a commit without writes
+pub end_keeps_order : (w : World) (c : ℕ) (p : Txn) → InOrder w → txn_of w c ≡ Some p → InOrder (record w { running = without c w.running })
+end_keeps_order w c p o open_p =
     let left : (d : ℕ) (q : Txn) → find_txn (without c w.running) d ≡ Some q → (nat_eq c d ≡ false) × (find_txn w.running d ≡ Some q) = left_found c w.running in
     record {
       ready = ready_left w c w.clock p o.ready open_p (omega arith) (omega arith);

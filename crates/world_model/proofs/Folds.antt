@@ -1,5 +1,5 @@
 -- Folds of commits: what depends on the touched objects alone, and which commits an object sees.
-use Rattle.std.proofs.Common.{◌≡◌, ℕ, ◌≤◌, List, [], ◌∷◌, ◌++◌, Bool, true, false, not, ◌&&◌, ◌||◌, cond, refl, sym, ap, ◌∙◌, arith, append_assoc}
+use Rattle.std.proofs.Common.{◌≡◌, ℕ, ◌≤◌, List, [], ◌∷◌, ◌++◌, Bool, true, false, not, ◌&&◌, ◌||◌, cond, refl, sym, ap, ◌∙◌, arith, append_assoc, filter}
 use Rattle.std.specs.Prelude.{nat_eq, nat_lt}
 use Rattle.std.specs.List.{list_any, list_all}
 use Rattle.std.proofs.lemmas.Bool.{false≢true}
@@ -172,19 +172,20 @@ are_below-append n m (op ∷ xs) ys =
     ap (λ b. list_all (is_given n m) (touches op) && b) (are_below-append n m xs ys)
     ∙ sym (and_assoc (list_all (is_given n m) (touches op)) (are_below n m xs) (are_below n m ys))
 
-is_given-more : (n n' m : ℕ) (x : Oid) → n ≤ n' → is_given n m x ≡ true → is_given n' m x ≡ true
-is_given-more n n' m (Vertex v) le h = grind (arith, nat_tests)
-is_given-more n n' m (Edge e) le h = h
+pub is_given-more : (n n' m m' : ℕ) (x : Oid) → n ≤ n' → m ≤ m' → is_given n m x ≡ true → is_given n' m' x ≡ true
+is_given-more n n' m m' (Vertex v) le more h = grind (arith, nat_tests)
+is_given-more n n' m m' (Edge e) le more h = grind (arith, nat_tests)
 
-all_given-more : (n n' m : ℕ) (xs : List Oid) → n ≤ n' → list_all (is_given n m) xs ≡ true → list_all (is_given n' m) xs ≡ true
-all_given-more n n' m [] le h = refl
-all_given-more n n' m (x ∷ xs) le h = both_true _ _ (is_given-more n n' m x le (and_left_true _ _ h)) (all_given-more n n' m xs le (and_right_true _ _ h))
+all_given-more : (n n' m m' : ℕ) (xs : List Oid) → n ≤ n' → m ≤ m' → list_all (is_given n m) xs ≡ true → list_all (is_given n' m') xs ≡ true
+all_given-more n n' m m' [] le more h = refl
+all_given-more n n' m m' (x ∷ xs) le more h =
+    both_true _ _ (is_given-more n n' m m' x le more (and_left_true _ _ h)) (all_given-more n n' m m' xs le more (and_right_true _ _ h))
 
-pub are_below-more : (n n' m : ℕ) (ops : List Op) → n ≤ n' → are_below n m ops ≡ true → are_below n' m ops ≡ true
+pub are_below-more : (n n' m m' : ℕ) (ops : List Op) → n ≤ n' → m ≤ m' → are_below n m ops ≡ true → are_below n' m' ops ≡ true
 unfolding are_below
-are_below-more n n' m [] le h = refl
-are_below-more n n' m (op ∷ ops) le h =
-    both_true _ _ (all_given-more n n' m (touches op) le (and_left_true _ _ h)) (are_below-more n n' m ops le (and_right_true _ _ h))
+are_below-more n n' m m' [] le more h = refl
+are_below-more n n' m m' (op ∷ ops) le more h =
+    both_true _ _ (all_given-more n n' m m' (touches op) le more (and_left_true _ _ h)) (are_below-more n n' m m' ops le more (and_right_true _ _ h))
 
 -- an id beyond its counter is none of those below
 beyond_apart : (n m : ℕ) (x y : Oid) → is_given n m x ≡ false → is_given n m y ≡ true → same_oid x y ≡ false
@@ -217,14 +218,18 @@ pub beyond_dead : (n m : ℕ) (x : Oid) (ops : List Op) → is_given n m x ≡ f
 beyond_dead n m x ops out below =
     object_at-apply_all ops empty_graph x ∙ untouched ops x _ (beyond_untouched n m x ops out below) ∙ empty_dead x
 
--- the writes of the earlier commits are among all
-pub before_below : (n m t : ℕ) (commits : List Commit) → are_below n m (ops_of commits) ≡ true → are_below n m (ops_of (before t commits)) ≡ true
-unfolding ops_of before
-before_below n m t [] h = h
-before_below n m t (c ∷ cs) h =
+-- the writes of the commits that pass a test are among all
+pub passed_below : (n m : ℕ) (P : ℕ → Bool) (commits : List Commit) → are_below n m (ops_of commits) ≡ true → are_below n m (ops_of (filter (λ c. P c.ts) commits)) ≡ true
+unfolding ops_of
+passed_below n m P [] h = h
+passed_below n m P (c ∷ cs) h =
     let split : (are_below n m c.ops && are_below n m (ops_of cs)) ≡ true = sym (are_below-append n m c.ops (ops_of cs)) ∙ h in
-    let rest : are_below n m (ops_of (before t cs)) ≡ true = before_below n m t cs (and_right_true _ _ split) in
-    elim (nat_lt c.ts t) as (λ b. are_below n m (ops_of (cond b (c ∷ before t cs) (before t cs))) ≡ true) [
-      | true ↦ are_below-append n m c.ops (ops_of (before t cs)) ∙ both_true _ _ (and_left_true _ _ split) rest
+    let rest : are_below n m (ops_of (filter (λ c. P c.ts) cs)) ≡ true = passed_below n m P cs (and_right_true _ _ split) in
+    elim (P c.ts) as (λ b. are_below n m (ops_of (cond b (c ∷ filter (λ c. P c.ts) cs) (filter (λ c. P c.ts) cs))) ≡ true) [
+      | true ↦ are_below-append n m c.ops (ops_of (filter (λ c. P c.ts) cs)) ∙ both_true _ _ (and_left_true _ _ split) rest
       | false ↦ rest
     ]
+
+pub before_below : (n m t : ℕ) (commits : List Commit) → are_below n m (ops_of commits) ≡ true → are_below n m (ops_of (before t commits)) ≡ true
+unfolding before
+before_below n m t commits h = passed_below n m (λ s. nat_lt s t) commits h

@@ -4,15 +4,21 @@ use Rattle.std.specs.Prelude.{nat_lt}
 use Rattle.std.proofs.lemmas.Bool.{false≢true}
 use Rattle.txn_manager.specs.declared.refusals.BeginRefused.{BeginRefused}
 use Rattle.txn_manager.specs.Transactions.{begin_refusal}
-use Rattle.world_model.specs.declared.event.Ask.{Ask}
+use Rattle.undo_delta.specs.declared.ask.Ask.{Ask}
 use Rattle.world_model.specs.declared.event.Event.{Event}
 use Rattle.world_model.specs.declared.event.Event.TheVariants as event
+use Rattle.world_model.specs.declared.event.Kind.{Kind}
+use Rattle.world_model.specs.declared.event.When.{When}
+use Rattle.graph_value.specs.declared.id.Oid.{Oid}
 use Rattle.world_model.specs.declared.answer.Answer.{Answer}
 use Rattle.world_model.specs.declared.answer.Refused.{Refused}
 use Rattle.undo_delta.specs.declared.op.Op.{Op}
 use Rattle.world_model.specs.Op.{changes, are_below, are_sound}
 use Rattle.world_model.specs.World.{World, Start, start_world, InOrder, Commit, Txn, stamps_ascend, rises, txn_of, find_txn, transactions_of, view_of, ops_of}
-use Rattle.world_model.specs.Step.{step, begin_step, read_step, write_step, allowed_write_step, effect_step, commit_step, committed, write_refusal, op_of}
+use Rattle.world_model.specs.Asked.{op_of}
+use Rattle.world_model.specs.Refusals.{write_refusal}
+use Rattle.world_model.specs.Views.{time_ahead}
+use Rattle.world_model.specs.Step.{step, begin_step, seen_step, next_step, read_step, write_step, allowed_write_step, effect_step, commit_step, committed, abort_step}
 use Rattle.world_model.specs.History.{Entry, run, AreAnswered, IsAnswered, world_after, is_no_memory, IsLegal, IsStart, stamp_given, stamp_of_txn, stamp_of_writes, stamps_given}
 use Rattle.std.specs.List.{list_all}
 use Rattle.world_model.proofs.Folds.{both_true, and_left_true, and_right_true}
@@ -82,12 +88,28 @@ begin_commits : (w : World) (c : ℕ) (r : Option BeginRefused) → (begin_step 
 begin_commits w c None = refl
 begin_commits w c (Some why) = refl
 
-effect_commits : (w : World) (c : ℕ) (ask : Ask) (b : Bool) → (effect_step w c ask b).world.commits ≡ w.commits
-effect_commits w c ask true = refl
-effect_commits w c ask false = refl
+seen_commits : (w : World) (why : Option Refused) (reply : Answer) → (seen_step w why reply).world.commits ≡ w.commits
+seen_commits w None reply = refl
+seen_commits w (Some why) reply = refl
+
+next_commits : (w : World) (kind : Kind) (after : Option ℕ) (when : When) (p : Option Txn) → (next_step w kind after when p).world.commits ≡ w.commits
+next_commits w kind after when None = refl
+next_commits w kind after when (Some p) = seen_commits w (time_ahead p when) _
+
+read_commits : (w : World) (x : Oid) (when : When) (p : Option Txn) → (read_step w x when p).world.commits ≡ w.commits
+read_commits w x when None = refl
+read_commits w x when (Some p) = seen_commits w (time_ahead p when) _
+
+abort_commits : (w : World) (c : ℕ) (p : Option Txn) → (abort_step w c p).world.commits ≡ w.commits
+abort_commits w c None = refl
+abort_commits w c (Some p) = refl
+
+effect_commits : (w : World) (c : ℕ) (ask : Ask) (op : Op) (b : Bool) → (effect_step w c ask op b).world.commits ≡ w.commits
+effect_commits w c ask op true = refl
+effect_commits w c ask op false = refl
 
 allowed_commits : (w : World) (p : Txn) (c : ℕ) (ask : Ask) (r : Option Refused) → (allowed_write_step w p c ask r).world.commits ≡ w.commits
-allowed_commits w p c ask None = effect_commits w c ask (changes (op_of w ask) (view_of w p))
+allowed_commits w p c ask None = effect_commits w c ask (op_of w (view_of w p) ask) (changes (op_of w (view_of w p) ask) (view_of w p))
 allowed_commits w p c ask (Some why) = refl
 
 write_commits : (w : World) (c : ℕ) (ask : Ask) (p : Option Txn) → (write_step w c ask p).world.commits ≡ w.commits
@@ -114,25 +136,20 @@ commit_memory w c (Some p) = by_writes p.ops
 true_false : (b : Bool) → b ≡ true → b ≡ false → ⊥
 true_false b t f = false≢true (sym f ∙ t)
 
+-- a step that adds no commit adds no timestamp
+no_stamp : (w : World) (b : Bool) (later : World) → later.commits ≡ w.commits → stamps (cond b w later).commits ≡ stamps w.commits ++ []
+no_stamp w true later same = nothing_more (stamps w.commits)
+no_stamp w false later same = ap stamps same ∙ nothing_more (stamps w.commits)
+
 -- what an entry adds to the timestamps
 entry_stamps : (w : World) (c : ℕ) (e : Event) (r : Answer) → IsAnswered w (record { caller = c; event = e; reply = r }) →
     stamps (world_after w (record { caller = c; event = e; reply = r })).commits ≡ stamps w.commits ++ stamp_given w (record { caller = c; event = e; reply = r }) e
-entry_stamps w c event.Begin r h = pick (is_no_memory r)
-  where
-    pick : (b : Bool) → stamps (cond b w (step w c event.Begin).world).commits ≡ stamps w.commits ++ []
-    pick true = nothing_more (stamps w.commits)
-    pick false = ap stamps (begin_commits w c (begin_refusal (transactions_of w) c)) ∙ nothing_more (stamps w.commits)
-entry_stamps w c (event.Read x when) r h = pick (is_no_memory r) (txn_of w c)
-  where
-    pick : (b : Bool) (p : Option Txn) → stamps (cond b w (read_step w x p).world).commits ≡ stamps w.commits ++ []
-    pick true p = nothing_more (stamps w.commits)
-    pick false None = nothing_more (stamps w.commits)
-    pick false (Some p) = nothing_more (stamps w.commits)
-entry_stamps w c (event.Write ask) r h = pick (is_no_memory r)
-  where
-    pick : (b : Bool) → stamps (cond b w (step w c (event.Write ask)).world).commits ≡ stamps w.commits ++ []
-    pick true = nothing_more (stamps w.commits)
-    pick false = ap stamps (write_commits w c ask (txn_of w c)) ∙ nothing_more (stamps w.commits)
+entry_stamps w c event.Begin r h = no_stamp w (is_no_memory r) (step w c event.Begin).world (begin_commits w c (begin_refusal (transactions_of w) c))
+entry_stamps w c (event.Next kind after when) r h = no_stamp w (is_no_memory r) (step w c (event.Next kind after when)).world (next_commits w kind after when (txn_of w c))
+entry_stamps w c (event.Read x when) r h = no_stamp w (is_no_memory r) (step w c (event.Read x when)).world (read_commits w x when (txn_of w c))
+entry_stamps w c (event.Write ask) r h = no_stamp w (is_no_memory r) (step w c (event.Write ask)).world (write_commits w c ask (txn_of w c))
+entry_stamps w c event.Abort r h = no_stamp w (is_no_memory r) (step w c event.Abort).world (abort_commits w c (txn_of w c))
+entry_stamps w c event.Mark r h = no_stamp w (is_no_memory r) w refl
 entry_stamps w c event.Commit r (inl same) = pick (is_no_memory r) refl
   where
     pick : (b : Bool) → is_no_memory r ≡ b → stamps (cond b w (step w c event.Commit).world).commits ≡ stamps w.commits ++ stamp_of_txn (txn_of w c) r

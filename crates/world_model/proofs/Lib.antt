@@ -3,6 +3,10 @@ pub mod Folds
 pub mod Txns
 pub mod Lists
 pub mod Begins
+pub mod Rivals
+pub mod ObjectViews
+pub mod Searches
+pub mod Views
 pub mod Writes
 pub mod Commits
 pub mod EdgeLists
@@ -16,7 +20,11 @@ pub mod Effects
 pub mod Undo
 pub mod Marks
 pub mod Answered
+pub mod OpenUndo
 mod Worked
 mod Network
 mod WorkedGraphs
 mod WorkedSteps
+mod Gaps
+mod WorkedWrites
+mod WorkedReads

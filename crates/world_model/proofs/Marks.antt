@@ -5,14 +5,21 @@ use Rattle.txn_manager.specs.declared.running.Running.{Running}
 use Rattle.txn_manager.specs.declared.refusals.BeginRefused.{BeginRefused}
 use Rattle.txn_manager.specs.RunningList as list
 use Rattle.txn_manager.specs.Transactions.{begin_refusal, least_start}
-use Rattle.world_model.specs.declared.event.Ask.{Ask}
+use Rattle.graph_value.specs.declared.id.Oid.{Oid}
+use Rattle.undo_delta.specs.declared.ask.Ask.{Ask}
 use Rattle.world_model.specs.declared.event.Event.{Event}
 use Rattle.world_model.specs.declared.event.Event.TheVariants as event
+use Rattle.world_model.specs.declared.event.Kind.{Kind}
+use Rattle.world_model.specs.declared.event.When.{When}
+use Rattle.world_model.specs.declared.answer.Answer.{Answer}
 use Rattle.world_model.specs.declared.answer.Refused.{Refused}
 use Rattle.undo_delta.specs.declared.op.Op.{Op}
 use Rattle.world_model.specs.Op.{changes}
 use Rattle.world_model.specs.World.{World, Start, start_world, Txn, txn_of, transactions_of, InOrder, view_of, mark}
-use Rattle.world_model.specs.Step.{step, begin_step, read_step, write_step, commit_step, allowed_write_step, effect_step, committed, write_refusal, op_of}
+use Rattle.world_model.specs.Asked.{op_of}
+use Rattle.world_model.specs.Refusals.{write_refusal}
+use Rattle.world_model.specs.Views.{time_ahead}
+use Rattle.world_model.specs.Step.{step, begin_step, seen_step, next_step, read_step, write_step, commit_step, abort_step, allowed_write_step, effect_step, committed}
 use Rattle.world_model.specs.History.{Entry, IsStart, run, world_after, is_no_memory}
 use Rattle.world_model.proofs.Begins.{fresh}
 use Rattle.world_model.proofs.Lists.{bare, map-one, map-with_op, map-without}
@@ -82,16 +89,24 @@ begins w c o None =
     subst (λ (ts : List Running). mark w ≤ least_start (w.clock + 1) ts) (sym (map-one w.running (fresh w c)))
     (from_all (mark w) (w.clock + 1) (map bare w.running ++ bare (fresh w c) ∷ []) (all_one (mark w) (map bare w.running) (bare (fresh w c)) (all_open w) low) (omega arith))
 
-reads : (w : World) (x : Rattle.graph_value.specs.declared.id.Oid.Oid) (p : Option Txn) → mark w ≤ mark (read_step w x p).world
-reads w x None = itself (mark w)
-reads w x (Some p) = itself (mark w)
+seen : (w : World) (why : Option Refused) (reply : Answer) → mark w ≤ mark (seen_step w why reply).world
+seen w None reply = itself (mark w)
+seen w (Some why) reply = itself (mark w)
 
-effects : (w : World) (c : ℕ) (ask : Ask) (b : Bool) → mark w ≤ mark (effect_step w c ask b).world
-effects w c ask true = subst (λ (ts : List Running). mark w ≤ least_start w.clock ts) (sym (map-with_op w.running c (op_of w ask))) (itself (mark w))
-effects w c ask false = itself (mark w)
+searches : (w : World) (kind : Kind) (after : Option ℕ) (when : When) (p : Option Txn) → mark w ≤ mark (next_step w kind after when p).world
+searches w kind after when None = itself (mark w)
+searches w kind after when (Some p) = seen w (time_ahead p when) _
+
+reads : (w : World) (x : Oid) (when : When) (p : Option Txn) → mark w ≤ mark (read_step w x when p).world
+reads w x when None = itself (mark w)
+reads w x when (Some p) = seen w (time_ahead p when) _
+
+effects : (w : World) (c : ℕ) (ask : Ask) (op : Op) (b : Bool) → mark w ≤ mark (effect_step w c ask op b).world
+effects w c ask op true = subst (λ (ts : List Running). mark w ≤ least_start w.clock ts) (sym (map-with_op w.running c op)) (itself (mark w))
+effects w c ask op false = itself (mark w)
 
 allowed : (w : World) (p : Txn) (c : ℕ) (ask : Ask) (r : Option Refused) → mark w ≤ mark (allowed_write_step w p c ask r).world
-allowed w p c ask None = effects w c ask (changes (op_of w ask) (view_of w p))
+allowed w p c ask None = effects w c ask (op_of w (view_of w p) ask) (changes (op_of w (view_of w p) ask) (view_of w p))
 allowed w p c ask (Some why) = itself (mark w)
 
 writes : (w : World) (c : ℕ) (ask : Ask) (p : Option Txn) → mark w ≤ mark (write_step w c ask p).world
@@ -113,11 +128,18 @@ commits w c o (Some p) = by_writes p.ops
     by_writes [] = left w c w.clock o (itself w.clock)
     by_writes (op ∷ ops) = left w c (w.clock + 1) o (omega arith)
 
+aborts : (w : World) (c : ℕ) → InOrder w → (p : Option Txn) → mark w ≤ mark (abort_step w c p).world
+aborts w c o None = itself (mark w)
+aborts w c o (Some p) = left w c w.clock o (itself w.clock)
+
 pub step_mark : (w : World) (c : ℕ) (e : Event) → InOrder w → mark w ≤ mark (step w c e).world
 step_mark w c event.Begin o = begins w c o (begin_refusal (transactions_of w) c)
-step_mark w c (event.Read x when) o = reads w x (txn_of w c)
+step_mark w c (event.Next kind after when) o = searches w kind after when (txn_of w c)
+step_mark w c (event.Read x when) o = reads w x when (txn_of w c)
 step_mark w c (event.Write ask) o = writes w c ask (txn_of w c)
 step_mark w c event.Commit o = commits w c o (txn_of w c)
+step_mark w c event.Abort o = aborts w c o (txn_of w c)
+step_mark w c event.Mark o = itself (mark w)
 
 entry_mark : (w : World) (e : Entry) → InOrder w → mark w ≤ mark (world_after w e)
 entry_mark w e o = pick (is_no_memory e.reply)

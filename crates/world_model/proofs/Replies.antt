@@ -8,15 +8,20 @@ use Rattle.graph_record.specs.declared.object.EdgeRecord.{EdgeRecord}
 use Rattle.graph_record.specs.Graph.{Graph, object_at, vertex_cmp, edge_cmp, vertex_object, edge_object}
 use Rattle.txn_manager.specs.declared.refusals.BeginRefused.{BeginRefused}
 use Rattle.txn_manager.specs.Transactions.{begin_refusal}
-use Rattle.world_model.specs.declared.event.Ask.{Ask}
+use Rattle.undo_delta.specs.declared.ask.Ask.{Ask}
 use Rattle.world_model.specs.declared.event.Event.{Event}
 use Rattle.world_model.specs.declared.event.Event.TheVariants as event
+use Rattle.world_model.specs.declared.event.Kind.{Kind}
+use Rattle.world_model.specs.declared.event.When.{When}
 use Rattle.world_model.specs.declared.answer.Answer.{Answer}
 use Rattle.world_model.specs.declared.answer.Refused.{Refused}
 use Rattle.undo_delta.specs.declared.op.Op.{Op}
 use Rattle.world_model.specs.Op.{changes}
 use Rattle.world_model.specs.World.{World, Txn, txn_of, transactions_of, view_of}
-use Rattle.world_model.specs.Step.{step, begin_step, read_step, write_step, allowed_write_step, effect_step, commit_step, committed, write_refusal, op_of}
+use Rattle.world_model.specs.Asked.{op_of}
+use Rattle.world_model.specs.Refusals.{write_refusal}
+use Rattle.world_model.specs.Views.{graph_of, time_ahead}
+use Rattle.world_model.specs.Step.{step, begin_step, seen_step, next_step, read_step, write_step, allowed_write_step, effect_step, commit_step, committed, abort_step}
 use Rattle.world_model.specs.History.{IsAnswered}
 use Rattle.world_model.specs.Replies.{IsObjectOf, IsReplyTo}
 
@@ -36,16 +41,25 @@ begins : (w : World) (c : ℕ) (r : Option BeginRefused) → IsReplyTo event.Beg
 begins w c None = tt
 begins w c (Some why) = tt
 
-reads : (w : World) (x : Oid) (p : Option Txn) → IsReplyTo (event.Read x Rattle.world_model.specs.declared.event.When.TheVariants.Own) (read_step w x p).reply
-reads w x None = tt
-reads w x (Some p) = object_of (view_of w p) x
+-- what is answered of a graph, or that its instant is ahead
+seen : (w : World) (e : Event) (reply : Answer) → IsReplyTo e reply → (why : Option Refused) → IsReplyTo e (seen_step w why reply).reply
+seen w e reply h None = h
+seen w e reply h (Some why) = tt
 
-effects : (w : World) (c : ℕ) (ask : Ask) (b : Bool) → IsReplyTo (event.Write ask) (effect_step w c ask b).reply
-effects w c ask true = tt
-effects w c ask false = tt
+searches : (w : World) (kind : Kind) (after : Option ℕ) (when : When) (p : Option Txn) → IsReplyTo (event.Next kind after when) (next_step w kind after when p).reply
+searches w kind after when None = tt
+searches w kind after when (Some p) = seen w (event.Next kind after when) _ tt (time_ahead p when)
+
+reads : (w : World) (x : Oid) (when : When) (p : Option Txn) → IsReplyTo (event.Read x when) (read_step w x when p).reply
+reads w x when None = tt
+reads w x when (Some p) = seen w (event.Read x when) _ (object_of (graph_of w p when) x) (time_ahead p when)
+
+effects : (w : World) (c : ℕ) (ask : Ask) (op : Op) (b : Bool) → IsReplyTo (event.Write ask) (effect_step w c ask op b).reply
+effects w c ask op true = tt
+effects w c ask op false = tt
 
 allowed : (w : World) (p : Txn) (c : ℕ) (ask : Ask) (r : Option Refused) → IsReplyTo (event.Write ask) (allowed_write_step w p c ask r).reply
-allowed w p c ask None = effects w c ask (changes (op_of w ask) (view_of w p))
+allowed w p c ask None = effects w c ask (op_of w (view_of w p) ask) (changes (op_of w (view_of w p) ask) (view_of w p))
 allowed w p c ask (Some why) = tt
 
 writes : (w : World) (c : ℕ) (ask : Ask) (p : Option Txn) → IsReplyTo (event.Write ask) (write_step w c ask p).reply
@@ -60,11 +74,18 @@ commits : (w : World) (c : ℕ) (p : Option Txn) → IsReplyTo event.Commit (com
 commits w c None = tt
 commits w c (Some p) = ends w c p.start p.ops
 
+aborts : (w : World) (c : ℕ) (p : Option Txn) → IsReplyTo event.Abort (abort_step w c p).reply
+aborts w c None = tt
+aborts w c (Some p) = tt
+
 step_replies : (w : World) (c : ℕ) (e : Event) → IsReplyTo e (step w c e).reply
 step_replies w c event.Begin = begins w c (begin_refusal (transactions_of w) c)
-step_replies w c (event.Read x when) = reads w x (txn_of w c)
+step_replies w c (event.Next kind after when) = searches w kind after when (txn_of w c)
+step_replies w c (event.Read x when) = reads w x when (txn_of w c)
 step_replies w c (event.Write ask) = writes w c ask (txn_of w c)
 step_replies w c event.Commit = commits w c (txn_of w c)
+step_replies w c event.Abort = aborts w c (txn_of w c)
+step_replies w c event.Mark = tt
 
 pub answer_replies : (w : World) (c : ℕ) (e : Event) (r : Answer) → IsAnswered w (record { caller = c; event = e; reply = r }) → IsReplyTo e r
 answer_replies w c e r (inl same) = subst (IsReplyTo e) (sym same) (step_replies w c e)

@@ -9,7 +9,8 @@ use Rattle.txn_manager.specs.declared.rivals.Rival.TheVariants.{Committed}
 use Rattle.undo_delta.specs.declared.op.Op.{Op}
 use Rattle.world_model.specs.Op.{are_touching}
 use Rattle.world_model.specs.World.{Commit, Txn, find_txn, other_writer, newest_touch, touched_after, greatest}
-use Rattle.world_model.specs.Step.{with_op, without, or_else}
+use Rattle.world_model.specs.Step.{with_op, without}
+use Rattle.world_model.specs.Refusals.{or_else}
 
 -- a transaction that is found is the caller's
 pub found_caller : (ps : List Txn) (c : ℕ) (p : Txn) → find_txn ps c ≡ Some p → nat_eq p.caller c ≡ true

@@ -25,7 +25,7 @@ use Rattle.world_model.specs.World.{World, Commit, InOrder, ops_of, fold_of, gra
 use Rattle.world_model.specs.Undo.{both, left_by, left_by_all, dated, left_since, undo_list, undone_above}
 use Rattle.world_model.proofs.Objects.{object_at-apply, apply_all-append}
 use Rattle.world_model.proofs.Folds.{and_left_true, and_right_true, empty_dead, possible_at, are_sound-append}
-use Rattle.world_model.proofs.Order.{none_passes}
+use Rattle.world_model.proofs.Views.{none_passes}
 
 -- ---- one write
 
@@ -67,7 +67,7 @@ unfolding apply_all
 writes_form [] g x sound form = form
 writes_form (op ∷ ops) g x sound form = writes_form ops (apply op g) x (rest_sound op ops g sound) (write_form op g x (first_possible op ops g sound) form)
 
-writes_undone : (ops : List Op) (g : Graph) (x : Oid) → are_sound ops g ≡ true → IsForm (object_at g x) → fold after (object_at (apply_all ops g) x) (reverse (left_by_all ops x g)) ≡ object_at g x
+pub writes_undone : (ops : List Op) (g : Graph) (x : Oid) → are_sound ops g ≡ true → IsForm (object_at g x) → fold after (object_at (apply_all ops g) x) (reverse (left_by_all ops x g)) ≡ object_at g x
 unfolding apply_all left_by_all
 writes_undone [] g x sound form = refl
 writes_undone (op ∷ ops) g x sound form =

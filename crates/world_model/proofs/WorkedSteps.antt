@@ -10,8 +10,9 @@ use Rattle.txn_manager.specs.declared.rivals.Rival.TheVariants as rival
 use Rattle.txn_manager.specs.declared.refusals.BeginRefused.TheVariants as begin
 use Rattle.txn_manager.specs.Transactions.{begin_refusal}
 use Rattle.undo_delta.specs.declared.op.Op.TheVariants as op
-use Rattle.world_model.specs.declared.event.Ask.{Ask}
-use Rattle.world_model.specs.declared.event.Ask.TheVariants.{CreateVertex, SetVertexProp, SetEdgeProp}
+use Rattle.undo_delta.specs.declared.op.Op.{Op}
+use Rattle.undo_delta.specs.declared.ask.Ask.{Ask}
+use Rattle.undo_delta.specs.declared.ask.Ask.TheVariants.{CreateVertex, SetVertexProp, SetEdgeProp}
 use Rattle.world_model.specs.declared.event.Event.TheVariants as event
 use Rattle.world_model.specs.declared.event.When.TheVariants.{Own}
 use Rattle.world_model.specs.declared.answer.Answer.TheVariants as answer
@@ -19,13 +20,17 @@ use Rattle.world_model.specs.declared.answer.Wrote.TheVariants as wrote
 use Rattle.world_model.specs.declared.answer.Refused.TheVariants as refused
 use Rattle.world_model.specs.Op.{apply_all, are_touching}
 use Rattle.world_model.specs.World.{World, InOrder, start_world, find_txn, other_writer, newest_touch, touched_after, ops_of, before, rises, mark}
-use Rattle.world_model.specs.Step.{step, effect_step, write_refusal, with_op, without}
+use Rattle.world_model.specs.Refusals.{write_refusal}
+use Rattle.world_model.specs.Step.{step, effect_step, with_op, without}
 use Rattle.world_model.specs.History.{IsStart, may_want, no_memory, world_after, stamps_given}
 use Rattle.world_model.specs.Replies.{IsReplyTo}
 use Rattle.world_model.proofs.Network.{v0, v1, e0, five, network, full, early, late}
 
 abbrev set_weight : Ask
 set_weight = SetEdgeProp e0 (codes "w") five
+
+abbrev weight_op : Op
+weight_op = op.SetEdgeProp e0 (codes "w") five
 
 -- ---- an edge's property is written under its name, and the write is answered as done
 
@@ -49,8 +54,25 @@ weight_is_set : step network 1 (event.Write set_weight) ≡ record { reply = ans
 unfolding apply_all ops_of before find_txn other_writer newest_touch are_touching with_op
     values.out-Value values.roll-Value denote.Hole.Carrier.out denote.Hole.Carrier.roll
 weight_is_set =
-    let as_decided : step network 1 (event.Write set_weight) ≡ effect_step network 1 set_weight (not (same_value Null five)) = refl in
-    as_decided ∙ ap (effect_step network 1 set_weight) (ap not (null_apart (pos 5)))
+    let as_decided : step network 1 (event.Write set_weight) ≡ effect_step network 1 set_weight weight_op (not (same_value Null five)) = refl in
+    as_decided ∙ ap (effect_step network 1 set_weight weight_op) (ap not (null_apart (pos 5)))
+
+-- and so is a vertex's
+abbrev set_key : Ask
+set_key = SetVertexProp v1 (codes "k") five
+
+abbrev key_op : Op
+key_op = op.SetVertexProp v1 (codes "k") five
+
+abbrev keyed : World
+keyed = record network { running = early ∷ record late { ops = op.AddLabel v1 (codes "C") ∷ key_op ∷ [] } ∷ [] }
+
+key_is_set : step network 2 (event.Write set_key) ≡ record { reply = answer.Wrote wrote.Done; world = keyed }
+unfolding apply_all ops_of before find_txn other_writer newest_touch are_touching with_op
+    values.out-Value values.roll-Value denote.Hole.Carrier.out denote.Hole.Carrier.roll
+key_is_set =
+    let as_decided : step network 2 (event.Write set_key) ≡ effect_step network 2 set_key key_op (not (same_value Null five)) = refl in
+    as_decided ∙ ap (effect_step network 2 set_key key_op) (ap not (null_apart (pos 5)))
 
 -- ---- who stands in the way
 
@@ -106,6 +128,20 @@ at_a_read = refl
 
 nothing_done : world_after network (record { caller = 3; event = event.Begin; reply = no_memory }) ≡ network
 nothing_done = refl
+
+-- after every other answer the world is the step's
+after_a_begin : world_after network (record { caller = 3; event = event.Begin; reply = answer.Begun 8 })
+    ≡ record network { clock = 9; running = early ∷ late ∷ record { caller = 3; start = 8; ops = [] } ∷ [] }
+after_a_begin = refl
+
+after_a_write : world_after network (record { caller = 2; event = event.Write CreateVertex; reply = answer.Wrote (wrote.Vertex (record { 0 = 2 })) })
+    ≡ record network { vertices = 3; running = early ∷ record late { ops = op.AddLabel v1 (codes "C") ∷ op.CreateVertex (record { 0 = 2 }) ∷ [] } ∷ [] }
+unfolding apply_all ops_of before find_txn other_writer newest_touch are_touching with_op
+after_a_write = refl
+
+after_an_abort : world_after network (record { caller = 2; event = event.Abort; reply = answer.Aborted }) ≡ record network { running = early ∷ [] }
+unfolding find_txn without
+after_an_abort = refl
 
 -- ---- timestamps rise
 

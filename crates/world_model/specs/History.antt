@@ -28,6 +28,8 @@ is_refusal_no_memory refused.NoTxn = false
 is_refusal_no_memory refused.AlreadyOpen = false
 is_refusal_no_memory (refused.Missing x) = false
 is_refusal_no_memory (refused.Conflict x rival) = false
+is_refusal_no_memory (refused.HasEdges v) = false
+is_refusal_no_memory (refused.TimeAhead t start) = false
 is_refusal_no_memory refused.ClockEnd = false
 is_refusal_no_memory refused.TooMany = false
 is_refusal_no_memory refused.IdEnd = false
@@ -35,24 +37,33 @@ is_refusal_no_memory refused.IdEnd = false
 abbrev pub is_no_memory : Answer → Bool
 is_no_memory (answer.Refused why) = is_refusal_no_memory why
 is_no_memory (answer.Begun start) = false
+is_no_memory (answer.Id id) = false
 is_no_memory (answer.Version object) = false
 is_no_memory (answer.Wrote wrote) = false
 is_no_memory (answer.Committed ts) = false
+is_no_memory answer.Aborted = false
+is_no_memory (answer.Marked marked) = false
 
 abbrev pub is_refused : Answer → Bool
 is_refused (answer.Refused why) = true
 is_refused (answer.Begun start) = false
+is_refused (answer.Id id) = false
 is_refused (answer.Version object) = false
 is_refused (answer.Wrote wrote) = false
 is_refused (answer.Committed ts) = false
+is_refused answer.Aborted = false
+is_refused (answer.Marked marked) = false
 
 abbrev pub takes_memory : Event → Bool
 takes_memory event.Begin = true
+takes_memory (event.Next kind after when) = true
 takes_memory (event.Read x when) = true
 takes_memory (event.Write ask) = true
 takes_memory event.Commit = false
+takes_memory event.Abort = false
+takes_memory event.Mark = false
 
--- Memory may be wanting where nothing else is refused, and never at a commit.
+-- Memory may be wanting where nothing else is refused, and never at a commit, an abort or a mark.
 abbrev pub may_want : World → ℕ → Event → Bool
 may_want w caller e = takes_memory e && not (is_refused (step w caller e).reply)
 
@@ -82,8 +93,11 @@ IsLegal s es = AreAnswered (start_world s) es
 abbrev pub committed_number : Answer → List ℕ
 committed_number (answer.Committed ts) = ts ∷ []
 committed_number (answer.Begun start) = []
+committed_number (answer.Id id) = []
 committed_number (answer.Version object) = []
 committed_number (answer.Wrote wrote) = []
+committed_number answer.Aborted = []
+committed_number (answer.Marked marked) = []
 committed_number (answer.Refused why) = []
 
 abbrev pub stamp_of_writes : List Op → Answer → List ℕ
@@ -97,9 +111,12 @@ stamp_of_txn (Some p) reply = stamp_of_writes p.ops reply
 -- the timestamp that an entry gives: a commit's answer, where its transaction had written
 abbrev pub stamp_given : World → Entry → Event → List ℕ
 stamp_given w e event.Begin = []
+stamp_given w e (event.Next kind after when) = []
 stamp_given w e (event.Read x when) = []
 stamp_given w e (event.Write ask) = []
 stamp_given w e event.Commit = stamp_of_txn (txn_of w e.caller) e.reply
+stamp_given w e event.Abort = []
+stamp_given w e event.Mark = []
 
 -- the timestamps that a history gives, in its order
 unfoldable pub stamps_given : World → List Entry → List ℕ

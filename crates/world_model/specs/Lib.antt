@@ -1,5 +1,8 @@
 pub mod Op
 pub mod World
+pub mod Views
+pub mod Asked
+pub mod Refusals
 pub mod Step
 pub mod History
 pub mod Change

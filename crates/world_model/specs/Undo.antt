@@ -12,7 +12,7 @@ use Rattle.undo_delta.specs.declared.delta.Delta.{Delta}
 use Rattle.undo_delta.specs.declared.delta.DeltaPair.{DeltaPair}
 use Rattle.undo_delta.specs.declared.op.Op.{Op}
 use Rattle.world_model.specs.Op.{apply, apply_all}
-use Rattle.world_model.specs.World.{World, Commit}
+use Rattle.world_model.specs.World.{World, Commit, Txn, fold_of, before}
 
 abbrev pub or_nothing : Option Delta → List Delta
 or_nothing None = []
@@ -39,7 +39,11 @@ unfoldable pub left_since : Graph → List Commit → Oid → List (Dated Delta)
 left_since g [] x = []
 left_since g (c ∷ cs) x = dated c.ts (left_by_all c.ops x g) ++ left_since (apply_all c.ops g) cs x
 
--- all deltas of an object in a world, the newest first
+-- the deltas that an open transaction's writes leave on an object, the newest first
+abbrev pub open_list : World → Txn → Oid → List Delta
+open_list w p x = reverse (left_by_all p.ops x (fold_of (before p.start w.commits)))
+
+-- all deltas that the commits of a world left on an object, the newest first
 abbrev pub undo_list : World → Oid → List (Dated Delta)
 undo_list w x = reverse (left_since empty_graph w.commits x)
 

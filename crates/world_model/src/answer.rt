@@ -1,5 +1,5 @@
 use graph_record::Object;
-use graph_value::{Oid, VertexId};
+use graph_value::{EdgeId, Oid, VertexId};
 use txn_manager::Rival;
 
 /// What a write did.
@@ -10,6 +10,8 @@ pub enum Wrote {
     Unchanged,
     /// The vertex that was made.
     Vertex(VertexId),
+    /// The edge that was made.
+    Edge(EdgeId),
 }
 
 /// Why an event was refused. A refusal changes nothing.
@@ -23,6 +25,10 @@ pub enum Refused {
     Missing(Oid),
     /// Another transaction wrote the object: one that is open, or one that committed after the caller's began.
     Conflict(Oid, Rival),
+    /// The vertex that is to be deleted has edges in the caller's view.
+    HasEdges(VertexId),
+    /// The instant `t` lies past the start of the caller's transaction.
+    TimeAhead { t: u64, start: u64 },
     /// The clock can't serve another transaction.
     ClockEnd,
     /// As many transactions are open as may be at once.
@@ -32,15 +38,31 @@ pub enum Refused {
     NoMemory,
 }
 
+/// Where the store stands.
+#[derive(Clone, Copy, Debug, PartialEq, Eq)]
+pub struct Marked {
+    /// The least start of the open transactions, or the clock where none is open.
+    pub mark: u64,
+    pub clock: u64,
+    /// The number that the next vertex gets, and the one that the next edge gets.
+    pub vertices: u64,
+    pub edges: u64,
+}
+
 /// What the store answers to an event.
 #[derive(Debug, Drop)]
 pub enum Answer {
     /// A transaction is open, with this start.
     Begun(u64),
+    /// The number of the next object, `None` where there is none.
+    Id(Option<u64>),
     /// The object that was read.
     Version(Object),
     Wrote(Wrote),
     /// The timestamp of the commit, or the transaction's start where it had written nothing.
     Committed(u64),
+    /// The transaction is gone, and so are its writes.
+    Aborted,
+    Marked(Marked),
     Refused(Refused),
 }

@@ -8,10 +8,10 @@ mod law;
 /// The end of the two counters of ids: where a counter stands here, no id is left.
 pub const ID_END: u64 = 1 << 62;
 
-pub use answer::{Answer, Refused, Wrote};
-pub use event::{Ask, Event, When};
+pub use answer::{Answer, Marked, Refused, Wrote};
+pub use event::{Asked, Event, Kind, When};
 pub use law::{
     commits_rise, deltas_lead_back, effects_are_seen, graphs_are_coherent, histories_keep_order,
-    marks_never_fall, objects_have_form, steps_keep_order, writes_are_answered,
-    writes_change_their_objects,
+    marks_never_fall, objects_have_form, open_deltas_lead_back, searches_find_the_next,
+    steps_keep_order, writes_are_answered, writes_change_their_objects,
 };

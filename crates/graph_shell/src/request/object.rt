@@ -1,6 +1,6 @@
 ghost use Rattle.std.specs.Prelude.{◌≡◌, IfOk};
 ghost use Rattle.std.specs.List.{list_all};
-ghost use Rattle.graph_shell.specs.Request.{continues_name, is_name, name_of, oid_of};
+ghost use Rattle.graph_shell.specs.Words.{continues_name, is_name, name_of, oid_of, vertex_of};
 
 use crate::NoMemory;
 use crate::request::number::number_below;
@@ -8,7 +8,7 @@ use graph_value::{EdgeId, Name, Oid, VertexId};
 use std::alloc::Global;
 
 /// The object that a word names: `v` or `e`, and a number below 2^63.
-#[tactic(auto, unfolding(crate::specs::Request::oid_of))]
+#[tactic(auto, unfolding(crate::specs::Words::oid_of))]
 pub fn oid(word: &[u8]) -> Option<Oid>
     ensures { result ≡ oid_of word.now }
 {
@@ -18,6 +18,17 @@ pub fn oid(word: &[u8]) -> Option<Oid>
         b'v' => Some(Oid::Vertex(VertexId(n))),
         b'e' => Some(Oid::Edge(EdgeId(n))),
         _ => None,
+    }
+}
+
+/// The vertex that a word names. An edge is none.
+#[tactic(auto, unfolding(crate::specs::Words::vertex_of))]
+pub fn vertex(word: &[u8]) -> Option<VertexId>
+    ensures { result ≡ vertex_of word.now }
+{
+    match oid(word)? {
+        Oid::Vertex(id) => Some(id),
+        Oid::Edge(_) => None,
     }
 }
 
@@ -40,8 +51,8 @@ fn is_name(word: &[u8]) -> bool
     }
 }
 
-/// The name of a property that a word is, or `None` where it is none.
-#[tactic(auto, unfolding(crate::specs::Request::name_of))]
+/// The name of a property, a label or a kind of edge that a word is, or `None` where it is none.
+#[tactic(auto, unfolding(crate::specs::Words::name_of))]
 pub fn name(alloc: Global, word: &[u8]) -> Result<Option<Name>, NoMemory>
     ensures { IfOk result (λ n. n ≡ name_of word.now) }
 {

@@ -1,132 +1,280 @@
+mod told;
+
 use super::*;
-use std::fmt::Write;
 use std::test::Fail;
+use told::told;
 
-/// A request in other words than those of the line.
-fn told(alloc: Global, line: &[u8]) -> Result<String, NoMemory> {
-    let mut out = String::new(alloc);
-    match read_request(alloc, line)? {
-        None => write!(out, "nothing")?,
-        Some(Request { caller, event }) => {
-            write!(out, "{caller}: ")?;
-            tell_event(&mut out, &event)?;
-        }
-    }
-    Ok(out)
+/// Whether the line is this request.
+fn is_told(alloc: Global, line: &str, wanted: &str) -> Result<bool, NoMemory> {
+    Ok(told(alloc, line.as_bytes())?.as_str() == wanted)
 }
 
-fn tell_event(out: &mut String, event: &Event) -> Result<(), NoMemory> {
-    match event {
-        Event::Begin => write!(out, "opens"),
-        Event::Read { x, when: When::Own } => {
-            write!(out, "reads ")?;
-            tell_object(out, *x)
-        }
-        Event::Write(Ask::CreateVertex) => write!(out, "makes a vertex"),
-        Event::Write(Ask::SetVertexProp(id, name, value)) => {
-            tell_object(out, Oid::Vertex(*id))?;
-            tell_value(out, name.as_str(), value)
-        }
-        Event::Write(Ask::SetEdgeProp(id, name, value)) => {
-            tell_object(out, Oid::Edge(*id))?;
-            tell_value(out, name.as_str(), value)
-        }
-        Event::Commit => write!(out, "commits"),
-    }
-}
-
-fn tell_object(out: &mut String, x: Oid) -> Result<(), NoMemory> {
-    match x {
-        Oid::Vertex(id) => write!(out, "vertex {}", id.0),
-        Oid::Edge(id) => write!(out, "edge {}", id.0),
-    }
-}
-
-fn tell_value(out: &mut String, name: &str, value: &Value) -> Result<(), NoMemory> {
-    match value {
-        Value::Int(n) => write!(out, ": {name} is {n}"),
-        _ => write!(out, ": {name} is no integer"),
-    }
-}
+const PLAIN: [(&str, &str); 8] = [
+    ("1 begin", "1: opens"),
+    ("0 begin", "0: opens"),
+    ("4294967295 begin", "4294967295: opens"),
+    ("7 vertex", "7: new"),
+    ("7 commit", "7: commits"),
+    ("7 abort", "7: aborts"),
+    ("7 mark", "7: marks"),
+    ("10 mark", "10: marks"),
+];
 
 #[test]
-fn reads_requests(rt: HostRuntime) -> Result<(), Fail> {
-    let table = [
-        ("1 begin", "1: opens"),
-        ("0 begin", "0: opens"),
-        ("4294967295 begin", "4294967295: opens"),
-        ("7 vertex", "7: makes a vertex"),
-        ("7 commit", "7: commits"),
-        ("1 read v0 own", "1: reads vertex 0"),
-        ("1 read e10 own", "1: reads edge 10"),
-        ("1 set v5 k 1", "1: vertex 5: k is 1"),
-        ("1 set e5 _k9 0", "1: edge 5: _k9 is 0"),
-        ("1 set v0 commit 1", "1: vertex 0: commit is 1"),
-        (
-            "1 set v0 k 9223372036854775807",
-            "1: vertex 0: k is 9223372036854775807",
-        ),
-        (
-            "1 set v0 k -9223372036854775808",
-            "1: vertex 0: k is -9223372036854775808",
-        ),
-        (
-            "1 set v9223372036854775807 k -1",
-            "1: vertex 9223372036854775807: k is -1",
-        ),
-    ];
-    for (line, wanted) in table {
-        let found = told(rt.alloc(), line.as_bytes())?;
-        assert!(rt; found.as_str() == wanted, "at {line}");
+fn reads_plain_verbs(rt: HostRuntime) -> Result<(), Fail> {
+    for (line, wanted) in PLAIN {
+        assert!(rt; is_told(rt.alloc(), line, wanted)?, "at {line}");
+    }
+    Ok(())
+}
+
+const READS: [(&str, &str); 10] = [
+    ("1 read v0 own", "1: vertex 0 now"),
+    ("1 read e10 own", "1: edge 10 now"),
+    ("1 read v0 at 0", "1: vertex 0 then 0"),
+    (
+        "1 read e9223372036854775807 at 9223372036854775807",
+        "1: edge 9223372036854775807 then 9223372036854775807",
+    ),
+    ("1 next vertex first own", "1: vertices now"),
+    ("1 next edge first own", "1: edges now"),
+    ("1 next edge first at 7", "1: edges then 7"),
+    ("1 next vertex after 0 own", "1: vertices above 0 now"),
+    ("1 next edge after 3 at 7", "1: edges above 3 then 7"),
+    (
+        "1 next vertex after 9223372036854775807 own",
+        "1: vertices above 9223372036854775807 now",
+    ),
+];
+
+#[test]
+fn reads_reads(rt: HostRuntime) -> Result<(), Fail> {
+    for (line, wanted) in READS {
+        assert!(rt; is_told(rt.alloc(), line, wanted)?, "at {line}");
+    }
+    Ok(())
+}
+
+const WRITES: [(&str, &str); 9] = [
+    ("1 delete v0", "1: no vertex 0 "),
+    ("1 delete e12", "1: no edge 12 "),
+    ("1 label v0 P", "1: mark vertex 0 P"),
+    ("1 label v3 label", "1: mark vertex 3 label"),
+    ("1 unlabel v0 _9", "1: bare vertex 0 _9"),
+    ("1 edge v0 T v1", "1: T from 0 to 1"),
+    ("1 edge v7 edge v7", "1: edge from 7 to 7"),
+    (
+        "1 edge v9223372036854775807 MATCH v0",
+        "1: MATCH from 9223372036854775807 to 0",
+    ),
+    ("1 set v0 commit 1", "1: vertex 0 commit: 1"),
+];
+
+#[test]
+fn reads_writes(rt: HostRuntime) -> Result<(), Fail> {
+    for (line, wanted) in WRITES {
+        assert!(rt; is_told(rt.alloc(), line, wanted)?, "at {line}");
+    }
+    Ok(())
+}
+
+const VALUES: [(&str, &str); 20] = [
+    ("1 set v5 k 1", "1: vertex 5 k: 1"),
+    ("1 set e5 _k9 0", "1: edge 5 _k9: 0"),
+    (
+        "1 set v0 k 9223372036854775807",
+        "1: vertex 0 k: 9223372036854775807",
+    ),
+    (
+        "1 set v0 k -9223372036854775808",
+        "1: vertex 0 k: -9223372036854775808",
+    ),
+    ("1 set v0 k null", "1: vertex 0 k: null"),
+    ("1 set v0 k true", "1: vertex 0 k: yes"),
+    ("1 set e0 k false", "1: edge 0 k: no"),
+    ("1 set v0 k \"\"", "1: vertex 0 k: <>"),
+    ("1 set v0 k \" a  b \"", "1: vertex 0 k: < a  b >"),
+    ("1 set v0 k \"\u{e9}\"", "1: vertex 0 k: <\u{e9}>"),
+    ("1 set v0 k \"\\u00e9\"", "1: vertex 0 k: <\u{e9}>"),
+    (
+        "1 set v0 k \"\\ud83d\\ude00\"",
+        "1: vertex 0 k: <\u{1f600}>",
+    ),
+    ("1 set v0 k \"\\u0000\"", "1: vertex 0 k: <\0>"),
+    ("1 set v0 k \"\\n\\/\\\"\"", "1: vertex 0 k: <\n/\">"),
+    ("1 set v0 k []", "1: vertex 0 k: ()"),
+    ("1 set v0 k [ ]", "1: vertex 0 k: ()"),
+    ("1 set v0 k [1,\"a\"]", "1: vertex 0 k: (1;<a>;)"),
+    ("1 set v0 k [ 1 ,  -2\t]", "1: vertex 0 k: (1;-2;)"),
+    ("1 set v0 k [true,false]", "1: vertex 0 k: (yes;no;)"),
+    ("1 set v0 k [\"a b\", \"]\"]", "1: vertex 0 k: (<a b>;<]>;)"),
+];
+
+#[test]
+fn reads_values(rt: HostRuntime) -> Result<(), Fail> {
+    for (line, wanted) in VALUES {
+        assert!(rt; is_told(rt.alloc(), line, wanted)?, "at {line}");
+    }
+    Ok(())
+}
+
+/// Whether the line is no request.
+fn is_refused(alloc: Global, line: &str) -> Result<bool, NoMemory> {
+    Ok(read_request(alloc, line.as_bytes())?.is_none())
+}
+
+const NO_WORDS: [&str; 24] = [
+    "",
+    "1",
+    "1 ",
+    " 1 begin",
+    "01 begin",
+    "4294967296 begin",
+    "18446744073709551617 begin",
+    "-1 begin",
+    "+1 begin",
+    "1  begin",
+    "1 begin ",
+    "1 begin now",
+    "1 Begin",
+    "1\tbegin",
+    "1 begin\r",
+    "1 mark 1",
+    "1 abort v0",
+    "1 read",
+    "1 next",
+    "1 set",
+    "1 set ",
+    "1 delete",
+    "1 edge",
+    "2 jump",
+];
+
+#[test]
+fn refuses_other_words(rt: HostRuntime) -> Result<(), Fail> {
+    for line in NO_WORDS {
+        assert!(rt; is_refused(rt.alloc(), line)?, "at {line}");
+    }
+    Ok(())
+}
+
+const NO_READS: [&str; 24] = [
+    "1 read v0",
+    "1 read v0 own ",
+    "1 read v00 own",
+    "1 read V0 own",
+    "1 read x0 own",
+    "1 read v own",
+    "1 read v9223372036854775808 own",
+    "1 read v0 at",
+    "1 read v0 at 01",
+    "1 read v0 at -1",
+    "1 read v0 at 9223372036854775808",
+    "1 read v0 own 1",
+    "1 next first own",
+    "1 next node first own",
+    "1 next vertex own",
+    "1 next vertex first",
+    "1 next vertex first 1 own",
+    "1 next vertex after own",
+    "1 next vertex after 0",
+    "1 next vertex after v0 own",
+    "1 next vertex after 00 own",
+    "1 next vertex after 9223372036854775808 own",
+    "1 next vertex after 0 at",
+    "1 next vertex after 0 at 1 own",
+];
+
+#[test]
+fn refuses_other_reads(rt: HostRuntime) -> Result<(), Fail> {
+    for line in NO_READS {
+        assert!(rt; is_refused(rt.alloc(), line)?, "at {line}");
+    }
+    Ok(())
+}
+
+const NO_WRITES: [&str; 20] = [
+    "1 delete",
+    "1 delete 0",
+    "1 delete v0 v1",
+    "1 label e0 P",
+    "1 label v0",
+    "1 label v0 P Q",
+    "1 label v0 1P",
+    "1 label v0 P-Q",
+    "1 label v0 `P`",
+    "1 label v0 ",
+    "1 unlabel e0 P",
+    "1 unlabel v0 \"P\"",
+    "1 edge v0 T e1",
+    "1 edge e0 T v1",
+    "1 edge v0 v1",
+    "1 edge v0  v1",
+    "1 edge v0 T v1 x",
+    "1 edge v0 T v01",
+    "1 vertex v0",
+    "1 commit 1",
+];
+
+#[test]
+fn refuses_other_writes(rt: HostRuntime) -> Result<(), Fail> {
+    for line in NO_WRITES {
+        assert!(rt; is_refused(rt.alloc(), line)?, "at {line}");
+    }
+    Ok(())
+}
+
+const NO_VALUES: [&str; 30] = [
+    "1 set v0 k",
+    "1 set v0 k ",
+    "1 set v0 k  1",
+    "1 set v0 k 1 ",
+    "1 set v0 k 1\t",
+    "1 set v0 k 1\r",
+    "1 set v0  1",
+    "1 set v0 1k 1",
+    "1 set v0 k-l 1",
+    "1 set v0 k\u{e9} 1",
+    "1 set v9223372036854775808 k 1",
+    "1 set v0 k -0",
+    "1 set v0 k 00",
+    "1 set v0 k 1.0",
+    "1 set v0 k 1e1",
+    "1 set v0 k +1",
+    "1 set v0 k -",
+    "1 set v0 k 9223372036854775808",
+    "1 set v0 k -9223372036854775809",
+    "1 set v0 k 18446744073709551616",
+    "1 set v0 k True",
+    "1 set v0 k {}",
+    "1 set v0 k [null]",
+    "1 set v0 k [[1]]",
+    "1 set v0 k [1,]",
+    "1 set v0 k [1] 2",
+    "1 set v0 k \"a",
+    "1 set v0 k \"\\ud800\"",
+    "1 set v0 k \"\t\"",
+    "1 set v0 k 'a'",
+];
+
+#[test]
+fn refuses_other_values(rt: HostRuntime) -> Result<(), Fail> {
+    for line in NO_VALUES {
+        assert!(rt; is_refused(rt.alloc(), line)?, "at {line}");
     }
     Ok(())
 }
 
 #[test]
-fn refuses_other_lines(rt: HostRuntime) -> Result<(), Fail> {
-    let table = [
-        "",
-        "1",
-        "1 ",
-        " 1 begin",
-        "01 begin",
-        "4294967296 begin",
-        "18446744073709551617 begin",
-        "-1 begin",
-        "+1 begin",
-        "1  begin",
-        "1 begin ",
-        "1 begin now",
-        "1 Begin",
-        "1\tbegin",
-        "2 jump",
-        "1 read v0",
-        "1 read v0 own ",
-        "1 read v00 own",
-        "1 read x0 own",
-        "1 read v own",
-        "1 read v9223372036854775808 own",
-        "1 set v0 k -0",
-        "1 set v0 k 00",
-        "1 set v0 k 1.0",
-        "1 set v0 k 1e1",
-        "1 set v0 k +1",
-        "1 set v0 k -",
-        "1 set v0 k 9223372036854775808",
-        "1 set v0 k -9223372036854775809",
-        "1 set v0 1k 1",
-        "1 set v0 k-l 1",
-        "1 set v0  1",
-        "1 set v9223372036854775808 k 1",
-        "1 set v0 k\u{e9} 1",
-    ];
-    for line in table {
-        assert!(rt;
-            read_request(rt.alloc(), line.as_bytes())?.is_none(),
-            "at {line}"
-        );
+fn refuses_bytes_that_are_no_text(rt: HostRuntime) -> Result<(), Fail> {
+    for line in [
+        b"1 set v0 k\xff 1".as_slice(),
+        b"1 set v0 k \"\xff\"".as_slice(),
+        b"1 set v0 k \"\xc3\"".as_slice(),
+        b"1 label v0 \xff".as_slice(),
+    ] {
+        assert!(rt; read_request(rt.alloc(), line)?.is_none());
     }
-    assert!(rt; read_request(rt.alloc(), b"1 set v0 k\xff 1")?.is_none());
     Ok(())
 }
 

@@ -26,9 +26,10 @@ pub enum Shape {
 #[derive(Clone, Copy)]
 pub enum Undo {
     Delete,
-    /// What the object was is a vertex without anything, or an edge from 1 to 2 of the kind `a`.
+    /// What the object was is a vertex without anything, or an edge of the kind `a`, from 1 to 2 or from 1 to 1.
     RecreateVertex,
     RecreateEdge,
+    RecreateRing,
     AddLabel(u8),
     RemoveLabel(u8),
     Set(u8, i64),
@@ -50,6 +51,13 @@ pub const LINK: Shape = Shape::Edge {
     kind: b'a',
     from: 1,
     to: 2,
+    props: &[],
+};
+
+pub const RING: Shape = Shape::Edge {
+    kind: b'a',
+    from: 1,
+    to: 1,
     props: &[],
 };
 
@@ -210,6 +218,7 @@ fn is_one_undo(delta: &Delta, undo: Undo) -> bool {
             is_shape(former.as_object(), &PLAIN)
         }
         (Delta::RecreateObject(former), Undo::RecreateEdge) => is_shape(former.as_object(), &LINK),
+        (Delta::RecreateObject(former), Undo::RecreateRing) => is_shape(former.as_object(), &RING),
         (Delta::AddLabel(name), Undo::AddLabel(byte)) => name.as_str() == text(byte),
         (Delta::RemoveLabel(name), Undo::RemoveLabel(byte)) => name.as_str() == text(byte),
         (Delta::SetProperty(setting), Undo::Set(byte, n)) => {
@@ -231,6 +240,7 @@ pub fn delta(alloc: Global, undo: Undo) -> Result<Delta, NoMemory> {
         Undo::Delete => Ok(Delta::DeleteObject),
         Undo::RecreateVertex => recreate(alloc, &PLAIN),
         Undo::RecreateEdge => recreate(alloc, &LINK),
+        Undo::RecreateRing => recreate(alloc, &RING),
         Undo::AddLabel(byte) => Ok(Delta::AddLabel(letter(alloc, byte)?)),
         Undo::RemoveLabel(byte) => Ok(Delta::RemoveLabel(letter(alloc, byte)?)),
         Undo::Set(byte, n) => set(alloc, byte, Value::Int(n)),

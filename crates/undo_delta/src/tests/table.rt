@@ -27,6 +27,9 @@ pub enum Write {
 /// the older first.
 type WriteRow = (bool, Shape, Write, Shape, Option<Undo>, Option<Undo>);
 
+/// An object before a write and after it, and the deltas that the write leaves on it, the older first.
+pub type Side = (Shape, Shape, Option<Undo>, Option<Undo>);
+
 /// The object before, the delta, and the object after.
 type DeltaRow = (Shape, Undo, Shape);
 
@@ -79,42 +82,42 @@ const LAST: Shape = Shape::Vertex {
     ins: &[],
 };
 
-const OUT: Shape = Shape::Vertex {
+pub const OUT: Shape = Shape::Vertex {
     labels: b"",
     props: &[],
     outs: &[7],
     ins: &[],
 };
 
-const IN: Shape = Shape::Vertex {
+pub const IN: Shape = Shape::Vertex {
     labels: b"",
     props: &[],
     outs: &[],
     ins: &[7],
 };
 
-const LOOP: Shape = Shape::Vertex {
+pub const LOOP: Shape = Shape::Vertex {
     labels: b"",
     props: &[],
     outs: &[7],
     ins: &[7],
 };
 
-const BUSY: Shape = Shape::Vertex {
+pub const BUSY: Shape = Shape::Vertex {
     labels: b"",
     props: &[],
     outs: &[3, 9],
     ins: &[3],
 };
 
-const BUSIER: Shape = Shape::Vertex {
+pub const BUSIER: Shape = Shape::Vertex {
     labels: b"",
     props: &[],
     outs: &[3, 7, 9],
     ins: &[3, 7],
 };
 
-const OTHER: Shape = Shape::Vertex {
+pub const OTHER: Shape = Shape::Vertex {
     labels: b"",
     props: &[],
     outs: &[3],
@@ -135,7 +138,7 @@ const WEIGHED: Shape = Shape::Edge {
     props: &[(b'a', 1)],
 };
 
-const DEAD: Shape = Shape::Dead;
+pub const DEAD: Shape = Shape::Dead;
 
 pub const WRITES: [WriteRow; 24] = [
     (
@@ -326,7 +329,7 @@ pub const DELTAS: [DeltaRow; 26] = [
     (DEAD, Undo::RemoveOut(7), DEAD),
 ];
 
-fn op(alloc: Global, write: Write) -> Result<Op, NoMemory> {
+pub fn op(alloc: Global, write: Write) -> Result<Op, NoMemory> {
     let v = VertexId(1);
     match write {
         Write::MakeVertex => Ok(Op::CreateVertex(v)),
@@ -384,21 +387,22 @@ fn changed_as(alloc: Global, work: &mut Object, op: &Op, row: &WriteRow) -> Resu
         return Ok(false);
     }
     let pair = change(alloc, x, work, op)?;
-    leads_back(alloc, work, &pair, row)
+    leads_back(alloc, work, &pair, &(row.1, row.3, row.4, row.5))
 }
 
-fn leads_back(
+/// Whether the object and the deltas are those after the write, and the deltas lead back to the object before it.
+pub fn leads_back(
     alloc: Global,
     work: &mut Object,
     pair: &DeltaPair,
-    row: &WriteRow,
+    side: &Side,
 ) -> Result<bool, NoMemory> {
-    let is_done = is_shape(work, &row.3)
-        && is_undo(pair.first.as_ref(), row.4)
-        && is_undo(pair.second.as_ref(), row.5);
+    let is_done = is_shape(work, &side.1)
+        && is_undo(pair.first.as_ref(), side.2)
+        && is_undo(pair.second.as_ref(), side.3);
     undo(alloc, work, pair.second.as_ref())?;
     undo(alloc, work, pair.first.as_ref())?;
-    Ok(is_done && is_shape(work, &row.1))
+    Ok(is_done && is_shape(work, &side.0))
 }
 
 fn undo(alloc: Global, work: &mut Object, delta: Option<&Delta>) -> Result<(), NoMemory> {

@@ -1,8 +1,5 @@
 use Rattle.world_model.proofs.Histories.{history_rises}
 use Rattle.front_core.proofs.law.histories_are_legal.Goals as goal
 
-pub returns-clause-legal : goal.returns-clause-legal
-returns-clause-legal c = λ s store es h. h.legal
-
 pub returns-clause-rise : goal.returns-clause-rise
 returns-clause-rise c = λ s store es h. history_rises s es h.start h.legal

@@ -3,6 +3,7 @@ use Rattle.std.proofs.Common.{◌≡◌, ◌++◌, ◌+◌, take, length, string
 use Rattle.std.specs.Prelude.{Err}
 use Rattle.wire_line.specs.Calls.{WhereTaken}
 use Rattle.wire_line.proofs.Told.{told_same, told_then, told_weaker, told_both, together_same, together_then}
+use Rattle.front_core.specs.Keeps.{StandsFor, first_start}
 use Rattle.graph_shell.specs.declared.run.Ending.{Ending}
 use Rattle.graph_shell.specs.declared.run.Ending.TheVariants.{SinkFault, NoMemory}
 use Rattle.graph_shell.specs.Runs.{Continues, IsEndingAfter}
@@ -28,7 +29,7 @@ returns-in_default g c = record {
 pub loop-init : goal.loop-init
 loop-init g c = record {
   bytes = told_same (g.I.Source.left c.args.input.now) _ (λ list. told_same (g.O.Sink.taken c.args.output.now) _
-      (λ taken. at_first c.in-Ok-Ok.core c.in-Ok-Ok.lines list taken c.in-Ok-Ok.ensures c.in-Ok-Ok.ensures'.waiting c.in-Ok-Ok.ensures'.passing));
+      (λ taken. at_first (StandsFor first_start c.in-Ok-Ok.core) c.in-Ok-Ok.lines list taken c.in-Ok-Ok.ensures c.in-Ok-Ok.ensures'.waiting c.in-Ok-Ok.ensures'.passing));
   taken = told_same (g.I.Source.left c.args.input.now) _ (λ list. omega (arith, c.in-Ok-Ok.ensures'.taken));
   same_input = together_same (g.I.Source.came c.args.input.now) (g.I.Source.left c.args.input.now);
   within = omega (arith, c.in-Ok-Ok.ensures'.taken);
@@ -44,18 +45,18 @@ returns-in-Err g c = record {
     done = λ e. told_then (g.I.Source.left c.args.input.now) (g.I.Source.left c.loop.input) (g.I.Source.left c.answer_next.new.input) _ _ _ c.loop.invariant.bytes c.in-Err.ensures.turn
         (λ list left rest so_far turn. told_weaker (g.O.Sink.taken c.args.output.now) (g.O.Sink.taken c.loop.output) _ _ so_far
         (λ before now some. answers_all rest c.answer_next.new.lines.waiting some
-        (subst (λ (x : Ending). Continues (Err x) c.answer_next.new.core (string_bytes c.answer_next.new.reply) c.loop.lines c.answer_next.new.lines left rest some.es) e (turn some.es some.stands some.at_start))));
+        (subst (λ (x : Ending). Continues (Err x) (StandsFor first_start c.answer_next.new.core) (string_bytes c.answer_next.new.reply) c.loop.lines c.answer_next.new.lines left rest some.es) e (turn some.es some.stands some.at_start))));
     source = λ e. let rose = c.in-Err.ensures.fault (ap Err e) in omega (arith, rose, c.loop.invariant.source);
     ended = λ e. told_then (g.I.Source.left c.args.input.now) (g.I.Source.left c.loop.input) (g.I.Source.left c.answer_next.new.input) _ _ _ c.loop.invariant.bytes c.in-Err.ensures.turn
         (λ list left rest so_far turn. told_weaker (g.O.Sink.taken c.args.output.now) (g.O.Sink.taken c.loop.output) _ _ so_far
-        (λ before now some. let stopped = subst (λ (x : Ending). Continues (Err x) c.answer_next.new.core (string_bytes c.answer_next.new.reply) c.loop.lines c.answer_next.new.lines left rest some.es) e (turn some.es some.stands some.at_start) in
+        (λ before now some. let stopped = subst (λ (x : Ending). Continues (Err x) (StandsFor first_start c.answer_next.new.core) (string_bytes c.answer_next.new.reply) c.loop.lines c.answer_next.new.lines left rest some.es) e (turn some.es some.stands some.at_start) in
         answers_read rest some stopped.0 stopped.1));
     sink = λ e. absurd (c.in-Err.ensures.no_sink (ap Err e));
     limit = told_then (g.I.Source.left c.args.input.now) (g.I.Source.left c.loop.input) (g.I.Source.left c.answer_next.new.input) _ _ _ c.loop.invariant.taken c.in-Err.ensures.reads.counted
         (λ list left rest was now. subst (IsEndingAfter c.in-Err.ending) (omega (arith, was, now)) c.in-Err.ensures.limit);
-    within = λ e. told_then (g.I.Source.left c.args.input.now) (g.I.Source.left c.loop.input) (g.I.Source.left c.answer_next.new.input) _ _ _ (told_both (g.I.Source.left c.args.input.now) (g.I.Source.left c.loop.input) _ _ (λ list left. WhereTaken g.O.Sink c.args.output.now c.loop.output (SoFar c.loop.core c.loop.lines left list) × (length left + c.loop.lines.taken ≡ length list)) c.loop.invariant.bytes c.loop.invariant.taken (λ list left so_far counted. (so_far, counted))) c.in-Err.ensures.turn
+    within = λ e. told_then (g.I.Source.left c.args.input.now) (g.I.Source.left c.loop.input) (g.I.Source.left c.answer_next.new.input) _ _ _ (told_both (g.I.Source.left c.args.input.now) (g.I.Source.left c.loop.input) _ _ (λ list left. WhereTaken g.O.Sink c.args.output.now c.loop.output (SoFar (StandsFor first_start c.loop.core) c.loop.lines left list) × (length left + c.loop.lines.taken ≡ length list)) c.loop.invariant.bytes c.loop.invariant.taken (λ list left so_far counted. (so_far, counted))) c.in-Err.ensures.turn
         (λ list left rest both turn. told_weaker (g.O.Sink.taken c.args.output.now) (g.O.Sink.taken c.loop.output) _ _ both.0
-        (λ before now some. answers_within some (subst (λ (x : Ending). Continues (Err x) c.answer_next.new.core (string_bytes c.answer_next.new.reply) c.loop.lines c.answer_next.new.lines left rest some.es) e (turn some.es some.stands some.at_start) c.loop.invariant.within) c.loop.invariant.within both.1));
+        (λ before now some. answers_within some (subst (λ (x : Ending). Continues (Err x) (StandsFor first_start c.answer_next.new.core) (string_bytes c.answer_next.new.reply) c.loop.lines c.answer_next.new.lines left rest some.es) e (turn some.es some.stands some.at_start) c.loop.invariant.within) c.loop.invariant.within both.1));
     front = told_then (g.I.Source.left c.args.input.now) (g.I.Source.left c.loop.input) (g.I.Source.left c.answer_next.new.input) _ _ _ c.loop.invariant.bytes c.in-Err.ensures.turn
         (λ list left rest so_far turn. told_weaker (g.O.Sink.taken c.args.output.now) (g.O.Sink.taken c.loop.output) _ _ so_far (λ before now some. front_of some));
   });
@@ -75,7 +76,7 @@ returns-in-Err-write_whole g c = record {
     within = λ e. cc;
     front = told_then (g.I.Source.left c.args.input.now) (g.I.Source.left c.loop.input) (g.I.Source.left c.answer_next.new.input) _ _ _ c.loop.invariant.bytes c.in_default-answer_next.ensures.turn
         (λ list left rest so_far turn. told_then (g.O.Sink.taken c.args.output.now) (g.O.Sink.taken c.loop.output) (g.O.Sink.taken c.write_whole.new.output) _ _ _ so_far c.in-Err-write_whole.ensures.bytes
-        (λ before now then some wrote. front_of_reply c.loop.core c.answer_next.new.core c.loop.lines c.answer_next.new.lines left rest list before now then
+        (λ before now then some wrote. front_of_reply (StandsFor first_start c.loop.core) (StandsFor first_start c.answer_next.new.core) c.loop.lines c.answer_next.new.lines left rest list before now then
         (string_bytes c.answer_next.new.reply) wrote.0 some (turn some.es some.stands some.at_start) (wrote.1 ∙ ap (λ x. now ++ take wrote.0 x) c.as_bytes.ensures.value)));
   });
 }
@@ -84,7 +85,7 @@ pub loop-preserved : goal.loop-preserved
 loop-preserved g c = record {
   bytes = told_then (g.I.Source.left c.args.input.now) (g.I.Source.left c.loop.input) (g.I.Source.left c.answer_next.new.input) _ _ _ c.loop.invariant.bytes c.in_default-answer_next.ensures.turn
       (λ list left rest so_far turn. told_then (g.O.Sink.taken c.args.output.now) (g.O.Sink.taken c.loop.output) (g.O.Sink.taken c.write_whole.new.output) _ _ _ so_far c.in-Ok.ensures.bytes
-      (λ before now then some wrote. one_more c.loop.core c.answer_next.new.core c.loop.lines c.answer_next.new.lines left rest list before now then
+      (λ before now then some wrote. one_more (StandsFor first_start c.loop.core) (StandsFor first_start c.answer_next.new.core) c.loop.lines c.answer_next.new.lines left rest list before now then
       (string_bytes c.answer_next.new.reply) some (turn some.es some.stands some.at_start) (wrote ∙ ap (λ x. now ++ x) c.as_bytes.ensures.value)));
   taken = told_then (g.I.Source.left c.args.input.now) (g.I.Source.left c.loop.input) (g.I.Source.left c.answer_next.new.input) _ _ _ c.loop.invariant.taken c.in_default-answer_next.ensures.reads.counted (λ list left rest was now. omega (arith, was, now));
   same_input = together_then (g.I.Source.came c.args.input.now) (g.I.Source.left c.args.input.now) (g.I.Source.came c.loop.input) (g.I.Source.left c.loop.input) (g.I.Source.came c.answer_next.new.input) (g.I.Source.left c.answer_next.new.input) c.loop.invariant.same_input c.in_default-answer_next.ensures.reads.same_input;

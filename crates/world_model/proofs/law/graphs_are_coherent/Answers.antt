@@ -1,4 +1,4 @@
-use Rattle.world_model.proofs.Order.{instant_coherent, view_coherent}
+use Rattle.world_model.proofs.Views.{instant_coherent, view_coherent}
 use Rattle.world_model.proofs.law.graphs_are_coherent.Goals as goal
 
 pub returns-clause-instants : goal.returns-clause-instants

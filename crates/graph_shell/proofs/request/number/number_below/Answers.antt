@@ -1,7 +1,7 @@
 -- The word is a number, so it is a text, and `parse` refuses it only where it isn't below 2 ^ 64.
 use Rattle.std.proofs.Common.{◌≡◌, true, arith}
 use Rattle.std.proofs.lemmas.Bool.Decides.{nat_tests}
-use Rattle.graph_shell.specs.Request.{is_number}
+use Rattle.graph_shell.specs.Words.{is_number}
 use Rattle.graph_shell.proofs.Numbers.{number_utf8, number_below_at, parsed, refused}
 use Rattle.graph_shell.proofs.request.number.number_below.Goals as goal
 

@@ -2,7 +2,7 @@
 use Rattle.std.proofs.Common.{rules, tests}
 use Rattle.std.proofs.lemmas.Iterator.{YieldsList-from_slice}
 use Rattle.std.proofs.lemmas.Iterator.Search.{all_from_yields_List}
-use Rattle.graph_shell.specs.Request.{continues_name}
+use Rattle.graph_shell.specs.Words.{continues_name}
 use Rattle.graph_shell.proofs.request.object.continues_name.Goals as goal
 
 pub returns : goal.returns

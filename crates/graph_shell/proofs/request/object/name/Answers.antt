@@ -1,6 +1,6 @@
 -- A name is ASCII, so it is a text.
 use Rattle.std.proofs.Common.{◌≡◌, true, arith}
-use Rattle.graph_shell.specs.Request.{is_name}
+use Rattle.graph_shell.specs.Words.{is_name}
 use Rattle.graph_shell.proofs.Names.{name_utf8}
 use Rattle.graph_shell.proofs.request.object.name.Goals as goal
 

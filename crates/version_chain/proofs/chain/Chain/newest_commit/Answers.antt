@@ -21,5 +21,5 @@ returns-clause-first g c =
 pub returns-clause-greatest : goal.returns-clause-greatest
 returns-clause-greatest g c =
     let es = c.self.inside.entries.items in
-    let P : Option ℕ → Type 0 = λ r. IfSome r (λ ts. All (λ other. other ≤ ts) (timestamps_of c.args.self.now)) in
-    subst P (sym (returns-clause-first g c)) (first_is_greatest c.args.self.now (rw (← c.self.view_is) c.self.invariant.in_order))
+    let P : Option ℕ → Type 0 = λ r. IfSome r (λ ts. All (λ other. other ≤ ts) (timestamps_of c.args.self.now.entries)) in
+    subst P (sym (returns-clause-first g c)) (first_is_greatest c.args.self.now.entries (rw (← c.self.view_is) c.self.invariant.in_order))

@@ -1,5 +1,5 @@
-use Rattle.std.proofs.Common.{◌<◌, All, arith}
-use Rattle.version_chain.specs.Parts.{timestamps_of}
+use Rattle.std.proofs.Common.{◌<◌, All, arith, subst, sym}
+use Rattle.version_chain.specs.Parts.{Entries, timestamps_of}
 use Rattle.version_chain.proofs.Changes.{open_count-le, stamped_front, stamped_chain}
 use Rattle.version_chain.proofs.chain.Chain.stamp.Goals as goal
 
@@ -11,7 +11,7 @@ pub invariant_of-self : goal.invariant_of-self
 invariant_of-self g c =
     let es = c.self.inside.entries.items in
     let n = c.self.inside.open_count in
-    let above : All (λ older. older < c.args.ts) (timestamps_of es) = rw c.self.view_is c.requires in
+    let above : All (λ older. older < c.args.ts) (timestamps_of es) = subst (λ (v : Entries _). All (λ older. older < c.args.ts) (timestamps_of v.entries)) (sym c.self.view_is) c.requires in
     stamped_chain c.args.ts n es _ c.self.invariant above (stamped_front c.args.ts n es _ c.self.invariant c.stamp_first.ensures.items)
 
 pub returns : goal.returns

@@ -1,0 +1,104 @@
+ghost use Rattle.std.specs.Prelude.{◌≡◌, ◌≤◌, List, [], ◌∷◌, ◌++◌, IfOk};
+ghost use Rattle.world_model.specs.World.{Start, start_world};
+ghost use Rattle.world_model.specs.History.{Entry, IsAnswered, run};
+ghost use Rattle.world_model.specs.Replies.{IsReplyTo};
+
+use crate::NoMemory;
+use crate::objects::Objects;
+use crate::rows::Rows;
+use crate::state::State;
+use crate::transactions::Transactions;
+use std::alloc::Global;
+use std::marker::Model;
+use txn_manager::CLOCK_END;
+use world_model::{Answer, Event, ID_END};
+
+/// The store as one state, which callers change step by step. What it keeps is at all times that of some world: a list
+/// of commits and open transactions, from which the objects, their deltas and their writers follow.
+#[derive(Drop)]
+pub struct Core {
+    state: State,
+}
+
+impl Model for Core {
+    ghost use Rattle.front_core.specs.Keeps.{KeepsSome};
+    ghost use Rattle.front_core.specs.declared.state.State.{State as AnyState};
+    ghost use Rattle.graph_value.specs.contracts.value.Value as property_value;
+    ghost use Rattle.std.specs.Coded.{codes};
+
+    ghost Value = { AnyState };
+
+    ghost coded = { Prim.hlevel (codes, property_value.the_row.coded) };
+
+    ghost view = { λ c. c.state };
+
+    ghost invariant = { λ c. KeepsSome c.state };
+}
+
+impl Core {
+    ghost use Rattle.front_core.specs.Keeps.{StandsFor, first_start};
+
+    /// A store in which nothing has happened. `k` is how many deltas a block of history will hold, from 1 to 1,024;
+    /// as long as there is no history, nothing depends on it.
+    pub fn new(alloc: Global, k: u64) -> Result<Core, NoMemory>
+        requires at_least { 1 ≤ k }
+        requires at_most { k ≤ 1024 }
+        ensures { IfOk result (λ core. StandsFor first_start core []) }
+    {
+        Core::new_at(alloc, k, 1, 0, 0)
+    }
+
+    /// A store whose clock and counters begin with these numbers, each at most 2^62 and the clock at least 1. Ids
+    /// below the counters are dead.
+    pub fn new_at(
+        alloc: Global,
+        k: u64,
+        clock: u64,
+        vertices: u64,
+        edges: u64,
+    ) -> Result<Core, NoMemory>
+        requires at_least { 1 ≤ k }
+        requires at_most { k ≤ 1024 }
+        requires begun { 1 ≤ clock }
+        requires clock_range { clock ≤ CLOCK_END }
+        requires vertex_range { vertices ≤ ID_END }
+        requires edge_range { edges ≤ ID_END }
+        ensures { IfOk result (λ core.
+            StandsFor (record { clock = clock; vertices = vertices; edges = edges }) core []) }
+    {
+        let _ = k;
+        Ok(Core {
+            state: State {
+                transactions: Transactions::new(alloc, clock),
+                objects: Objects {
+                    vertices: Rows::new(alloc, vertices),
+                    edges: Rows::new(alloc, edges),
+                },
+            },
+        })
+    }
+
+    /// Answers a caller's event.
+    ///
+    /// For every legal history that the core stands for, the answer is the one that the history's world gives, or
+    /// `NoMemory` where nothing else is refused and the event is no commit, no abort and no mark; afterwards the core
+    /// stands for the history with this entry. A refusal leaves the same world.
+    pub fn step(&mut self, alloc: Global, caller: u64, event: Event) -> Answer
+        ensures answered { (s : Start) (es : List Entry) → StandsFor s self.old es →
+            IsAnswered (run (start_world s) es) (record { caller = caller; event = event; reply = result }) }
+        ensures stands { (s : Start) (es : List Entry) → StandsFor s self.old es →
+            StandsFor s self.new (es ++ record { caller = caller; event = event; reply = result } ∷ []) }
+        // A version is answered to a read alone, and is of the kind that the read named; a number to a search alone.
+        ensures fits { IsReplyTo event result }
+    {
+        match event {
+            Event::Begin => self.state.begin(alloc, caller),
+            Event::Next { kind, after, when } => self.state.next(caller, kind, after, when),
+            Event::Read { x, when } => self.state.read(alloc, caller, x, when),
+            Event::Write(ask) => self.state.write(alloc, caller, ask),
+            Event::Commit => self.state.commit(caller),
+            Event::Abort => self.state.abort(caller),
+            Event::Mark => self.state.mark(caller),
+        }
+    }
+}
