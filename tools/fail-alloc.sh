@@ -1,43 +1,52 @@
 #!/usr/bin/env bash
-# Runs `aeong events` unproved on the lines of examples/network.events, once for each N of a range, with the Nth
-# allocation failing, and judges what it answered. It is no part of the gate.
+# Runs the program on the lines of examples/network.events, once for each N of a range, with the Nth allocation failing,
+# and judges what it answered. It is no part of the gate.
 #
-#   tools/fail-alloc.sh FIRST LAST [STEP]
+#   tools/fail-alloc.sh [FIRST [LAST]]
 #
-# Each run prints a line. As it must be:
+# Without LAST it goes on to the last allocation that a run without a fault makes, and without FIRST it begins at the
+# first. Each run prints a line. As it must be:
 #
-#   as without a fault          the allocation wasn't reached, or wasn't needed
+#   as without a fault          the allocation wasn't needed
 #   line L found no memory      its reply is `refused 11 no memory`, and all others are those of a run without line L
 #   status 5 behind R replies   the run ended, and these are the first of the replies
 #
 # All else is WRONG: a reply that is lost, changed or given twice. The last line counts them, and the script's status is
 # 1 where there is one.
+#
+# Build the program first, by bin/aeong or by `rt ci` at the top. fail-alloc.c stands between it and the C library's
+# malloc; a C compiler is needed for it, $CC or cc.
 set -uo pipefail
 
-first="${1:-}" last="${2:-}" step="${3:-1}"
-for number in "$first" "$last" "$step"; do
+first="${1:-1}" last="${2:-}"
+for number in "$first" "${last:-1}"; do
     if ! [[ "$number" =~ ^[1-9][0-9]*$ ]]; then
-        echo "usage: tools/fail-alloc.sh FIRST LAST [STEP]" >&2
+        echo "usage: tools/fail-alloc.sh [FIRST [LAST]]" >&2
         exit 2
     fi
 done
 top="$(cd "$(dirname "${BASH_SOURCE[0]}")/.." && pwd)"
+program="$top/crates/aeong/out/aeong"
+if [ ! -x "$program" ]; then
+    echo "no $program: run 'bin/aeong events </dev/null' first" >&2
+    exit 2
+fi
 room="$(mktemp -d)"
 trap 'rm -rf "$room"' EXIT
-cd "$top/crates/aeong" || exit 2
+"${CC:-cc}" -O1 -shared -fPIC -o "$room/fail-alloc.so" "$top/tools/fail-alloc.c" || exit 2
 
-# Runs the program on the list $1 with the flags behind $2, and keeps its replies in $2.
+# Runs the program on the list $1 with these settings of fail-alloc.c, and keeps its replies in $2.
 try() {
     local list="$1" replies="$2"
     shift 2
-    rt try "$@" -- events <"$list" >"$replies" 2>"$replies.log"
+    env "$@" LD_PRELOAD="$room/fail-alloc.so" "$program" events <"$list" >"$replies" 2>"$replies.log"
 }
 
 # The replies of a run without line $1 and without a fault.
 without() {
     if [ ! -e "$room/without.$1" ]; then
         sed "$1d" "$room/list" >"$room/list.$1"
-        try "$room/list.$1" "$room/without.$1" || return 1
+        "$program" events <"$room/list.$1" >"$room/without.$1" || return 1
     fi
 }
 
@@ -63,15 +72,16 @@ judge() {
 }
 
 grep -v '^#' "$top/examples/network.events" | grep -v '^[[:space:]]*$' >"$room/list"
-if ! try "$room/list" "$room/whole"; then
+if ! try "$room/list" "$room/whole" COUNT_ALLOC=1; then
     cat "$room/whole.log" >&2
     exit 2
 fi
-echo "without a fault: $(wc -l <"$room/list") lines, $(wc -l <"$room/whole") replies"
+made="$(tail -n 1 "$room/whole.log")"
+echo "without a fault: $(wc -l <"$room/list") lines, $(wc -l <"$room/whole") replies, $made allocations"
 
 runs=0 wrong=0
-for ((n = first; n <= last; n += step)); do
-    try "$room/list" "$room/replies" --fail-alloc "$n"
+for ((n = first; n <= ${last:-$made}; n++)); do
+    try "$room/list" "$room/replies" FAIL_ALLOC="$n"
     verdict="$(judge $?)"
     runs=$((runs + 1))
     case "$verdict" in

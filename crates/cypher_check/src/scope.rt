@@ -49,40 +49,40 @@ impl Scope {
 
     /// A vertex in MATCH.
     #[tactic(auto, unfolding(crate::specs::Asks::step))]
-    pub fn vertex(&mut self, alloc: Global, name: &Name) -> Result<(), NoMemory>
+    pub fn vertex(&mut self, name: &Name) -> Result<(), NoMemory>
         ensures { OnOk result (self.new ≡ step self.old (Vertex name.now)) }
     {
         if self.fault.is_some() {
             return Ok(());
         }
         if has(self.edges.as_slice(), name) {
-            self.fail(CheckRefused::Redeclared(name.copy(alloc)?));
+            self.fail(CheckRefused::Redeclared(name.copy()?));
         } else {
-            add(alloc, &mut self.here, name)?;
+            add(&mut self.here, name)?;
         }
         Ok(())
     }
 
     /// An edge in MATCH.
     #[tactic(auto, unfolding(crate::specs::Asks::step))]
-    pub fn edge(&mut self, alloc: Global, name: &Name) -> Result<(), NoMemory>
+    pub fn edge(&mut self, name: &Name) -> Result<(), NoMemory>
         ensures { OnOk result (self.new ≡ step self.old (Edge name.now)) }
     {
         if self.fault.is_some() {
             return Ok(());
         }
         if has(self.here.as_slice(), name) {
-            self.fail(CheckRefused::Redeclared(name.copy(alloc)?));
+            self.fail(CheckRefused::Redeclared(name.copy()?));
         } else {
-            push(alloc, &mut self.here, name)?;
-            push(alloc, &mut self.edges, name)?;
+            push(&mut self.here, name)?;
+            push(&mut self.edges, name)?;
         }
         Ok(())
     }
 
     /// A vertex in CREATE, which may be one that is there where it is `bare`.
     #[tactic(auto, unfolding(crate::specs::Asks::step))]
-    pub fn new_vertex(&mut self, alloc: Global, bare: bool, name: &Name) -> Result<(), NoMemory>
+    pub fn new_vertex(&mut self, bare: bool, name: &Name) -> Result<(), NoMemory>
         ensures { OnOk result (self.new ≡ step self.old (NewVertex bare name.now)) }
     {
         if self.fault.is_some() {
@@ -90,26 +90,26 @@ impl Scope {
         }
         let bound = has(self.names.as_slice(), name) || has(self.here.as_slice(), name);
         if bound && !bare || has(self.edges.as_slice(), name) {
-            self.fail(CheckRefused::Redeclared(name.copy(alloc)?));
+            self.fail(CheckRefused::Redeclared(name.copy()?));
         } else {
-            add(alloc, &mut self.here, name)?;
+            add(&mut self.here, name)?;
         }
         Ok(())
     }
 
     /// An edge in CREATE.
     #[tactic(auto, unfolding(crate::specs::Asks::step))]
-    pub fn new_edge(&mut self, alloc: Global, name: &Name) -> Result<(), NoMemory>
+    pub fn new_edge(&mut self, name: &Name) -> Result<(), NoMemory>
         ensures { OnOk result (self.new ≡ step self.old (NewEdge name.now)) }
     {
         if self.fault.is_some() {
             return Ok(());
         }
         if has(self.names.as_slice(), name) || has(self.here.as_slice(), name) {
-            self.fail(CheckRefused::Redeclared(name.copy(alloc)?));
+            self.fail(CheckRefused::Redeclared(name.copy()?));
         } else {
-            push(alloc, &mut self.here, name)?;
-            push(alloc, &mut self.edges, name)?;
+            push(&mut self.here, name)?;
+            push(&mut self.edges, name)?;
         }
         Ok(())
     }
@@ -122,7 +122,7 @@ impl Scope {
         if self.fault.is_some() {
             return Ok(());
         }
-        add_all(alloc, &mut self.names, self.here.as_slice())?;
+        add_all(&mut self.names, self.here.as_slice())?;
         self.here = Items::new(alloc);
         self.edges = Items::new(alloc);
         Ok(())
@@ -130,16 +130,16 @@ impl Scope {
 
     /// The name that UNWIND gives.
     #[tactic(auto, unfolding(crate::specs::Asks::step))]
-    pub fn unwind(&mut self, alloc: Global, name: &Name) -> Result<(), NoMemory>
+    pub fn unwind(&mut self, name: &Name) -> Result<(), NoMemory>
         ensures { OnOk result (self.new ≡ step self.old (Unwinds name.now)) }
     {
         if self.fault.is_some() {
             return Ok(());
         }
         if has(self.names.as_slice(), name) {
-            self.fail(CheckRefused::Redeclared(name.copy(alloc)?));
+            self.fail(CheckRefused::Redeclared(name.copy()?));
         } else {
-            push(alloc, &mut self.names, name)?;
+            push(&mut self.names, name)?;
         }
         Ok(())
     }
@@ -162,29 +162,29 @@ impl Scope {
 
     /// A name that an item gives.
     #[tactic(auto, unfolding(crate::specs::Asks::step))]
-    pub fn give(&mut self, alloc: Global, name: &Name) -> Result<(), NoMemory>
+    pub fn give(&mut self, name: &Name) -> Result<(), NoMemory>
         ensures { OnOk result (self.new ≡ step self.old (Gives name.now)) }
     {
         if self.fault.is_some() {
             return Ok(());
         }
         if has(self.given.as_slice(), name) {
-            self.fail(CheckRefused::Redeclared(name.copy(alloc)?));
+            self.fail(CheckRefused::Redeclared(name.copy()?));
         } else {
-            push(alloc, &mut self.given, name)?;
+            push(&mut self.given, name)?;
         }
         Ok(())
     }
 
     /// The names given come into scope.
     #[tactic(auto, unfolding(crate::specs::Asks::step))]
-    pub fn widen(&mut self, alloc: Global) -> Result<(), NoMemory>
+    pub fn widen(&mut self) -> Result<(), NoMemory>
         ensures { OnOk result (self.new ≡ step self.old Widens) }
     {
         if self.fault.is_some() {
             return Ok(());
         }
-        add_all(alloc, &mut self.names, self.given.as_slice())?;
+        add_all(&mut self.names, self.given.as_slice())?;
         Ok(())
     }
 
@@ -201,12 +201,12 @@ impl Scope {
     }
 
     /// What was found in expressions, of which these are the marks.
-    pub fn read(&mut self, alloc: Global, found: Option<Fault<'_>>) -> Result<(), NoMemory>
+    pub fn read(&mut self, found: Option<Fault<'_>>) -> Result<(), NoMemory>
         ensures { OnOk result (self.new ≡ read self.old (refused found.entry)) }
     {
         match found {
             None => {}
-            Some(Fault::Unbound(name)) => self.fail(CheckRefused::Unbound(name.copy(alloc)?)),
+            Some(Fault::Unbound(name)) => self.fail(CheckRefused::Unbound(name.copy()?)),
             Some(Fault::AggregatePlace) => self.fail(CheckRefused::AggregatePlace),
         }
         Ok(())

@@ -185,7 +185,8 @@ impl Objects {
     pub fn make(&mut self, alloc: Global, op: &Op) -> Result<(), NoMemory>
         requires vertices { next_of self.old.vertices + made_vertices op.now ≤ ID_END }
         requires edges { next_of self.old.edges + made_edges op.now ≤ ID_END }
-        ensures ok { OnOk result (Grown self.old self.new (made_vertices op.now) (made_edges op.now)) }
+        ensures ok { OnOk result (Grown self.old self.new
+            (made_vertices op.now) (made_edges op.now)) }
         ensures err { OnErr result (self.new ≡ self.old) }
     {
         match op {

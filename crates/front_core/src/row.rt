@@ -43,7 +43,11 @@ impl Model for Row {
 
     ghost coded = { Prim.hlevel (codes, property_value.the_row.coded) };
 
-    ghost view = { λ r. record { newest = r.newest; chain = r.chain.entries; writing = option_map box_value r.writing } };
+    ghost view = { λ r. record {
+      newest = r.newest;
+      chain = r.chain.entries;
+      writing = option_map box_value r.writing;
+    } };
 }
 
 impl Row {

@@ -104,7 +104,8 @@ impl Rows {
 
     /// Takes the last row away.
     pub fn remove_last(&mut self)
-        ensures { self.new ≡ record self.old { rows = take (length self.old.rows - 1) self.old.rows } }
+        ensures { self.new
+            ≡ record self.old { rows = take (length self.old.rows - 1) self.old.rows } }
     {
         let _ = self.rows.pop();
     }
@@ -143,7 +144,8 @@ impl Rows {
         requires possible { IsTrue (is_possible op.now x (row_of self.old number).newest) }
         requires alone { joined op.now ≡ None }
         ensures ok { OnOk result (self.new
-            ≡ with_row self.old number (written_row caller start op.now x (row_of self.old number))) }
+            ≡ with_row self.old number
+            (written_row caller start op.now x (row_of self.old number))) }
         ensures err { OnErr result (self.new ≡ self.old) }
     {
         let at = (number - self.first) as usize;

@@ -85,9 +85,11 @@ impl Core {
     /// stands for the history with this entry. A refusal leaves the same world.
     pub fn step(&mut self, alloc: Global, caller: u64, event: Event) -> Answer
         ensures answered { (s : Start) (es : List Entry) → StandsFor s self.old es →
-            IsAnswered (run (start_world s) es) (record { caller = caller; event = event; reply = result }) }
+            IsAnswered (run (start_world s) es)
+            (record { caller = caller; event = event; reply = result }) }
         ensures stands { (s : Start) (es : List Entry) → StandsFor s self.old es →
-            StandsFor s self.new (es ++ record { caller = caller; event = event; reply = result } ∷ []) }
+            StandsFor s self.new
+            (es ++ record { caller = caller; event = event; reply = result } ∷ []) }
         // A version is answered to a read alone, and is of the kind that the read named; a number to a search alone.
         ensures fits { IsReplyTo event result }
     {

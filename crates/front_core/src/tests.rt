@@ -1,65 +1,115 @@
-use crate::Core;
+//! Where the clock, the ids and the places for open transactions end.
+use crate::{Core, NoMemory};
 use std::alloc::Global;
 use std::test::Fail;
 use undo_delta::Ask;
 use world_model::{Answer, Event, Refused};
 
-fn refusal(answer: &Answer) -> Option<Refused> {
-    match answer {
-        Answer::Refused(why) => Some(*why),
-        _ => None,
+/// What a caller asks for in one step.
+#[derive(Clone, Copy)]
+enum Step {
+    Begin,
+    CreateVertex,
+    Commit,
+}
+
+/// What an answer tells.
+#[derive(Clone, Copy, PartialEq, Eq)]
+enum Told {
+    /// The start of a transaction, or the timestamp of a commit.
+    Instant(u64),
+    Refused(Refused),
+    Other,
+}
+
+/// A caller, what it asks for, and what the answer tells.
+type Row = (u64, Step, Told);
+
+static CLOCK: [Row; 5] = [
+    (1, Step::Begin, Told::Instant((1 << 62) - 2)),
+    (2, Step::Begin, Told::Refused(Refused::ClockEnd)),
+    (1, Step::CreateVertex, Told::Other),
+    (1, Step::Commit, Told::Instant((1 << 62) - 1)),
+    (1, Step::Begin, Told::Refused(Refused::ClockEnd)),
+];
+
+static IDS: [Row; 2] = [
+    (1, Step::Begin, Told::Instant(1)),
+    (1, Step::CreateVertex, Told::Refused(Refused::IdEnd)),
+];
+
+static PLACES: [Row; 1] = [(1024, Step::Begin, Told::Refused(Refused::TooMany))];
+
+fn event(step: Step) -> Event {
+    match step {
+        Step::Begin => Event::Begin,
+        Step::CreateVertex => Event::Write(Ask::CreateVertex),
+        Step::Commit => Event::Commit,
     }
 }
 
-fn instant(answer: &Answer) -> Option<u64> {
+fn tell(answer: &Answer) -> Told {
     match answer {
-        Answer::Begun(start) => Some(*start),
-        Answer::Committed(ts) => Some(*ts),
-        _ => None,
+        Answer::Begun(start) => Told::Instant(*start),
+        Answer::Committed(ts) => Told::Instant(*ts),
+        Answer::Refused(why) => Told::Refused(*why),
+        _ => Told::Other,
     }
 }
 
-fn create(alloc: Global, core: &mut Core, caller: u64) -> Answer {
-    core.step(alloc, caller, Event::Write(Ask::CreateVertex))
+fn answered(alloc: Global, core: &mut Core, caller: u64, step: Step) -> Told {
+    tell(&core.step(alloc, caller, event(step)))
+}
+
+/// Whether the store answers the rows so, one behind the other.
+fn are_told(alloc: Global, core: &mut Core, rows: &[Row]) -> bool {
+    for (caller, step, wanted) in rows {
+        if answered(alloc, core, *caller, *step) != *wanted {
+            return false;
+        }
+    }
+    true
+}
+
+/// Whether 1024 callers may have a transaction open at once.
+fn all_begin(alloc: Global, core: &mut Core) -> bool {
+    for caller in 0..1024 {
+        if answered(alloc, core, caller, Step::Begin) != Told::Instant(caller + 1) {
+            return false;
+        }
+    }
+    true
+}
+
+fn clock_ends(alloc: Global) -> Result<bool, NoMemory> {
+    let mut core = Core::new_at(alloc, 16, (1 << 62) - 2, 0, 0)?;
+    Ok(are_told(alloc, &mut core, &CLOCK))
+}
+
+fn ids_end(alloc: Global) -> Result<bool, NoMemory> {
+    let mut core = Core::new_at(alloc, 16, 1, 1 << 62, 0)?;
+    Ok(are_told(alloc, &mut core, &IDS))
+}
+
+fn places_end(alloc: Global) -> Result<bool, NoMemory> {
+    let mut core = Core::new(alloc, 16)?;
+    Ok(all_begin(alloc, &mut core) && are_told(alloc, &mut core, &PLACES))
 }
 
 #[test]
 fn a_clock_at_its_end_serves_what_is_open(rt: HostRuntime) -> Result<(), Fail> {
-    let alloc = rt.alloc();
-    let mut core = Core::new_at(alloc, 16, (1 << 62) - 2, 0, 0)?;
-    let begun = core.step(alloc, 1, Event::Begin);
-    assert_eq!(rt; instant(&begun), Some((1 << 62) - 2));
-    let second = core.step(alloc, 2, Event::Begin);
-    assert_eq!(rt; refusal(&second), Some(Refused::ClockEnd));
-    let made = create(alloc, &mut core, 1);
-    assert_eq!(rt; refusal(&made), None);
-    let committed = core.step(alloc, 1, Event::Commit);
-    assert_eq!(rt; instant(&committed), Some((1 << 62) - 1));
-    let last = core.step(alloc, 1, Event::Begin);
-    assert_eq!(rt; refusal(&last), Some(Refused::ClockEnd));
+    assert!(rt; clock_ends(rt.alloc())?);
     Ok(())
 }
 
 #[test]
-fn ids_end(rt: HostRuntime) -> Result<(), Fail> {
-    let alloc = rt.alloc();
-    let mut core = Core::new_at(alloc, 16, 1, 1 << 62, 0)?;
-    let begun = core.step(alloc, 1, Event::Begin);
-    assert_eq!(rt; instant(&begun), Some(1));
-    let made = create(alloc, &mut core, 1);
-    assert_eq!(rt; refusal(&made), Some(Refused::IdEnd));
+fn no_id_is_left_at_the_end(rt: HostRuntime) -> Result<(), Fail> {
+    assert!(rt; ids_end(rt.alloc())?);
     Ok(())
 }
 
 #[test]
 fn so_many_may_be_open_and_no_more(rt: HostRuntime) -> Result<(), Fail> {
-    let alloc = rt.alloc();
-    let mut core = Core::new(alloc, 16)?;
-    for caller in 0..1024 {
-        let begun = core.step(alloc, caller, Event::Begin);
-        assert_eq!(rt; instant(&begun), Some(caller + 1));
-    }
-    let another = core.step(alloc, 1024, Event::Begin);
-    assert_eq!(rt; refusal(&another), Some(Refused::TooMany));
+    assert!(rt; places_end(rt.alloc())?);
     Ok(())
 }

@@ -226,7 +226,8 @@ impl State {
     /// Whether the property would get another value.
     fn is_set(&self, x: Oid, name: &Name, value: &Value) -> bool
         ensures { result
-            ≡ not (same_value (value_at name.now (row_at self.now.objects x).newest) (kept value.now)) }
+            ≡ not (same_value (value_at name.now (row_at self.now.objects x).newest)
+            (kept value.now)) }
     {
         match self.newest(x) {
             Some(object) => !has_value(object, name, value),

@@ -1,6 +1,5 @@
 -- Editing the properties of an object keeps their form.
-use Rattle.std.proofs.Common.{◌≡◌, ℕ, List, [], ◌∷◌, true, false, not, cond, IsTrue, get_or, refl, sym, ap, ◌∙◌}
-use Rattle.std.proofs.Math.ListN.{set}
+use Rattle.std.proofs.Common.{◌≡◌, ℕ, List, [], ◌∷◌, true, false, not, cond, IsTrue, refl, sym, ap, ◌∙◌}
 use Rattle.std.specs.declared.cmp.Ordering.TheVariants.{Less, Equal, Greater}
 use Rattle.std.specs.FinMap.{put}
 use Rattle.std.specs.FinMap.Entries.{by_order}
@@ -14,8 +13,7 @@ use Rattle.graph_value.specs.Storable.{is_storable}
 use Rattle.graph_value.specs.declared.value.Value.{Value}
 use Rattle.graph_record.specs.Edits.{removed_key}
 use Rattle.graph_record.specs.Stored.{are_storable, IsPropertyList, set_property}
-use Rattle.graph_record.specs.Place.{IsAt, key_of}
-use Rattle.graph_record.proofs.Place.{both, put_at, put_sorted, removed_key_sorted}
+use Rattle.graph_record.proofs.Place.{both, put_sorted, removed_key_sorted}
 
 abbrev Props : Type 0
 Props = List (List ℕ × Value)
@@ -58,11 +56,5 @@ set_kept k v es form =
     ] refl
 
 -- names that tie are one name
-tied_names : (a b : List ℕ) → name_cmp a b ≡ Equal → a ≡ b
+pub tied_names : (a b : List ℕ) → name_cmp a b ≡ Equal → a ≡ b
 tied_names a b e = (bytes_eq-Decides a b).0 (sym (is_eq-slice_cmp a b) ∙ ap is_eq e)
-
--- a property that is written over at its name's place is put
-pub put_over : (k : List ℕ) (v : Value) (es : Props) (i : ℕ) → IsAt name_cmp key_of k es i → put name_cmp k v es ≡ set es i (k, v)
-put_over k v es i at =
-    put_at nat_list_cmp_total k v es i (k, v) at
-    ∙ ap (λ (name : List ℕ). set es i (name, v)) (tied_names (get_or es i (k, v)).0 k (at.has_key (k, v)))

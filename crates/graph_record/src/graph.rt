@@ -25,7 +25,8 @@ impl Model for Graph {
 
     ghost view = { λ g. record { vertices = g.vertices.items; edges = g.edges.items } };
 
-    ghost invariant = { λ g. IsCoherent (record { vertices = g.vertices.items; edges = g.edges.items }) };
+    ghost invariant = { λ g. IsCoherent
+        (record { vertices = g.vertices.items; edges = g.edges.items }) };
 }
 
 impl Graph {

@@ -32,7 +32,7 @@ impl Element for Name {
     fn copy_all(alloc: Global, items: &[Name]) -> Result<Vec<Name>, NoMemory> {
         let mut copies = Vec::with_capacity(alloc, items.len())?;
         for name in items {
-            copies.push(name.copy(alloc)?)?;
+            copies.push(name.copy()?)?;
         }
         Ok(copies)
     }

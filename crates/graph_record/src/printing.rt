@@ -34,7 +34,8 @@ pub fn push_object_json(
     object: &Object,
 ) -> Result<(), NoMemory>
     requires { IsOfKind x object.now }
-    ensures ok { OnOk result (string_bytes text.new ≡ string_bytes text.old ++ object_text x object.now) }
+    ensures ok { OnOk result (string_bytes text.new
+        ≡ string_bytes text.old ++ object_text x object.now) }
 {
     let before = mem::replace(text, String::new(alloc));
     let mut writer = Writer::new(before.into_bytes());
@@ -110,7 +111,8 @@ fn names_member(writer: &mut Writer, key: &str, names: &[Name]) -> Result<(), No
 }
 
 fn properties_member(writer: &mut Writer, properties: &[(Name, Value)]) -> Result<(), NoMemory>
-    ensures { AppendsMember result writer.old writer.new (codes "properties") (properties_data properties.now) }
+    ensures { AppendsMember result writer.old writer.new
+        (codes "properties") (properties_data properties.now) }
 {
     writer.key("properties")?;
     write_properties(writer, properties)

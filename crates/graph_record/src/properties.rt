@@ -41,7 +41,7 @@ impl Element for (Name, Value) {
     fn copy_all(alloc: Global, items: &[(Name, Value)]) -> Result<Vec<(Name, Value)>, NoMemory> {
         let mut copies = Vec::with_capacity(alloc, items.len())?;
         for (name, value) in items {
-            copies.push((name.copy(alloc)?, value.copy(alloc)?))?;
+            copies.push((name.copy()?, value.copy(alloc)?))?;
         }
         Ok(copies)
     }
@@ -84,12 +84,23 @@ impl Properties {
         }
     }
 
+    /// The name, which shares its text with the property of that name where there is one. It allocates nothing: the error
+    /// says that the name has as many owners as can be counted.
+    pub fn shared_name(&self, name: &Name) -> Result<Name, NoMemory>
+        ensures { IfOk result (λ n. n ≡ name.now) }
+    {
+        match self.place(name.as_str()) {
+            Ok(at) => self.items.as_slice()[at].0.copy(),
+            Err(_) => name.copy(),
+        }
+    }
+
     /// Gives the name this value, and gives back the one that it had, or `None` where it had none. A value that no
     /// object keeps, as null, takes the property away. Only a new name and properties that are shared can want for
     /// memory, and then nothing changes.
-    pub fn set(&mut self, name: Name, value: Value) -> Result<Option<Value>, NoMemory>
-        ensures ok { OnOk result (self.new ≡ set_property name value self.old) }
-        ensures former { IfOk result (λ former. former ≡ find name_cmp name self.old) }
+    pub fn set(&mut self, name: &Name, value: Value) -> Result<Option<Value>, NoMemory>
+        ensures ok { OnOk result (self.new ≡ set_property name.now value self.old) }
+        ensures former { IfOk result (λ former. former ≡ find name_cmp name.now self.old) }
         ensures form { IsPropertyList self.old }
         ensures err { OnErr result (self.new ≡ self.old) }
     {
@@ -100,20 +111,20 @@ impl Properties {
         }
     }
 
-    fn put(&mut self, name: Name, value: Value) -> Result<Option<Value>, NoMemory>
+    fn put(&mut self, name: &Name, value: Value) -> Result<Option<Value>, NoMemory>
         requires { IsTrue (is_storable value) }
-        ensures ok { OnOk result (self.new ≡ put name_cmp name value self.old) }
-        ensures former { IfOk result (λ former. former ≡ find name_cmp name self.old) }
+        ensures ok { OnOk result (self.new ≡ put name_cmp name.now value self.old) }
+        ensures former { IfOk result (λ former. former ≡ find name_cmp name.now self.old) }
         ensures form { IsPropertyList self.old }
         ensures err { OnErr result (self.new ≡ self.old) }
     {
         match self.place(name.as_str()) {
             Ok(at) => {
-                let (_, former) = self.items.replace(at, (name, value))?;
+                let former = self.items.replace_value(at, value)?;
                 Ok(Some(former))
             }
             Err(at) => {
-                self.items.insert(at, (name, value))?;
+                self.items.insert(at, (name.copy()?, value))?;
                 Ok(None)
             }
         }

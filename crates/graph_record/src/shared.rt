@@ -1,5 +1,5 @@
 //! A list that several owners may share.
-ghost use Rattle.std.specs.Prelude.{◌≡◌, ◌<◌, ◌≤◌, [], length, take, IfOk, OnOk, OnErr, set, slice_index_or};
+ghost use Rattle.std.specs.Prelude.{◌≡◌, ◌<◌, ◌≤◌, [], length, take, IfOk, OnOk, OnErr, get_or, set, slice_index_or};
 ghost use Rattle.std.specs.List.{insert, remove};
 
 use crate::NoMemory;
@@ -120,28 +120,6 @@ impl<T: Element> Shared<T> {
         }
     }
 
-    /// Puts the element in the place of the one that stands there, and gives that back. Only a list with another owner can
-    /// want for memory, and then nothing changes.
-    pub(crate) fn replace(&mut self, at: usize, element: T) -> Result<T, NoMemory>
-        requires in_range { at < length self.old }
-        ensures ok { OnOk result (self.new ≡ set self.old at element) }
-        ensures value { IfOk result (λ x. x ≡ slice_index_or self.old at x) }
-        ensures err { OnErr result (self.new ≡ self.old) }
-    {
-        match &mut self.items {
-            Some(shared) => match Arc::get_mut(shared) {
-                Some(own) => Ok(mem::replace(&mut own[at], element)),
-                None => {
-                    let mut own = T::copy_all(self.alloc, shared.as_slice())?;
-                    let former = mem::replace(&mut own[at], element);
-                    *shared = Arc::new(self.alloc, own)?;
-                    Ok(former)
-                }
-            },
-            None => unreachable!(),
-        }
-    }
-
     /// Keeps the first elements, so many. Only a list with another owner can want for memory, and then nothing changes.
     pub(crate) fn truncate(&mut self, len: usize) -> Result<(), NoMemory>
         ensures ok { OnOk result (self.new ≡ take len self.old) }
@@ -161,6 +139,35 @@ impl<T: Element> Shared<T> {
                 }
             },
             None => Ok(()),
+        }
+    }
+}
+
+impl<K: Drop, V: Drop> Shared<(K, V)>
+where
+    (K, V): Element,
+{
+    /// Puts the value in the place of the one that stands there under the same key, and gives that back. Only a list with
+    /// another owner can want for memory, and then nothing changes.
+    pub(crate) fn replace_value(&mut self, at: usize, value: V) -> Result<V, NoMemory>
+        requires in_range { at < length self.old }
+        ensures ok { (e : K × V) → OnOk result (self.new
+            ≡ set self.old at ((get_or self.old at e).0, value)) }
+        ensures former { (e : K × V) → IfOk result (λ former.
+            former ≡ (get_or self.old at e).1) }
+        ensures err { OnErr result (self.new ≡ self.old) }
+    {
+        match &mut self.items {
+            Some(shared) => match Arc::get_mut(shared) {
+                Some(own) => Ok(mem::replace(&mut own[at].1, value)),
+                None => {
+                    let mut own = <(K, V)>::copy_all(self.alloc, shared.as_slice())?;
+                    let former = mem::replace(&mut own[at].1, value);
+                    *shared = Arc::new(self.alloc, own)?;
+                    Ok(former)
+                }
+            },
+            None => unreachable!(),
         }
     }
 }

@@ -5,7 +5,7 @@ use std::test::Fail;
 
 /// Sets `k` to the number, and says which number it had.
 fn set_number(alloc: Global, props: &mut Properties, n: i64) -> Result<Option<i64>, NoMemory> {
-    let former = props.set(Name::from_str(alloc, "k")?, Value::Int(n))?;
+    let former = props.set(&Name::from_str(alloc, "k")?, Value::Int(n))?;
     Ok(number(former.as_ref()))
 }
 
@@ -16,66 +16,110 @@ fn number(value: Option<&Value>) -> Option<i64> {
     }
 }
 
-/// Sets `k` to 2, copies, and sets it to 3: the former numbers, and those of the list and of its copy.
-fn replaced(alloc: Global, props: &mut Properties) -> Result<[Option<i64>; 4], NoMemory> {
-    let first = set_number(alloc, props, 2)?;
+/// Sets `k` to 3, and says which number it had, which it has, and which the copy has.
+fn replaced_beside(
+    alloc: Global,
+    props: &mut Properties,
+    copy: &Properties,
+) -> Result<[Option<i64>; 3], NoMemory> {
+    let former = set_number(alloc, props, 3)?;
+    Ok([former, number(props.get("k")), number(copy.get("k"))])
+}
+
+fn replaced(alloc: Global, props: &mut Properties) -> Result<[Option<i64>; 3], NoMemory> {
     let copy = props.copy()?;
-    let second = set_number(alloc, props, 3)?;
-    Ok([first, second, number(props.get("k")), number(copy.get("k"))])
+    replaced_beside(alloc, props, &copy)
+}
+
+/// Takes `k` away, and says how many properties are left.
+fn left(alloc: Global, props: &mut Properties) -> Result<usize, NoMemory> {
+    props.set(&Name::from_str(alloc, "k")?, Value::Null)?;
+    Ok(props.len())
+}
+
+/// Sets `k` to 2, copies, sets it to 3, and takes it away.
+fn are_replaced(alloc: Global, props: &mut Properties) -> Result<bool, NoMemory> {
+    Ok(
+        set_number(alloc, props, 2)?.is_none()
+            && replaced(alloc, props)? == [Some(2), Some(3), Some(2)]
+            && left(alloc, props)? == 0,
+    )
+}
+
+fn properties_hold(alloc: Global) -> Result<bool, NoMemory> {
+    let mut props = Properties::new(alloc);
+    are_replaced(alloc, &mut props)
 }
 
 #[test]
 fn a_later_value_replaces_an_earlier_one_and_null_takes_it_away(
     rt: HostRuntime,
 ) -> Result<(), Fail> {
-    let alloc = rt.alloc();
-    let mut props = Properties::new(alloc);
-    let found = replaced(alloc, &mut props)?;
-    props.set(Name::from_str(alloc, "k")?, Value::Null)?;
-    assert!(rt; found == [None, Some(2), Some(3), Some(2)] && props.len() == 0);
+    assert!(rt; properties_hold(rt.alloc())?);
     Ok(())
 }
 
-/// Adds two labels, copies, and takes one away: whether it was there, whether the copy has it, how many are left.
-fn changed_labels(alloc: Global, labels: &mut Labels) -> Result<(bool, bool, usize), NoMemory> {
-    let later = Name::from_str(alloc, "b")?;
-    labels.add(later)?;
-    let earlier = Name::from_str(alloc, "a")?;
-    labels.add(earlier)?;
-    let copy = labels.copy()?;
+/// Takes a label away: whether it was there, whether the copy has it, how many are left.
+fn removed_beside(labels: &mut Labels, copy: &Labels) -> Result<(bool, bool, usize), NoMemory> {
     Ok((labels.remove("a")?, copy.contains("a"), labels.len()))
+}
+
+fn removed(labels: &mut Labels) -> Result<(bool, bool, usize), NoMemory> {
+    let copy = labels.copy()?;
+    removed_beside(labels, &copy)
+}
+
+/// Adds two labels, copies, and takes one away.
+fn are_changed(alloc: Global, labels: &mut Labels) -> Result<bool, NoMemory> {
+    labels.add(Name::from_str(alloc, "b")?)?;
+    labels.add(Name::from_str(alloc, "a")?)?;
+    Ok(removed(labels)? == (true, true, 1))
+}
+
+fn labels_hold(alloc: Global) -> Result<bool, NoMemory> {
+    let mut labels = Labels::new(alloc);
+    are_changed(alloc, &mut labels)
 }
 
 #[test]
 fn labels_are_added_and_removed_and_copies_stay(rt: HostRuntime) -> Result<(), Fail> {
-    let alloc = rt.alloc();
-    let mut labels = Labels::new(alloc);
-    assert!(rt; changed_labels(alloc, &mut labels)? == (true, true, 1));
+    assert!(rt; labels_hold(rt.alloc())?);
     Ok(())
 }
 
-/// Adds two edges, copies, takes the last off, adds a third and removes the first: the edge that was taken off, and
-/// whether the list and its copy hold what is left.
-fn changed_edges(edges: &mut EdgeIds) -> Result<(Option<EdgeId>, bool, bool), NoMemory> {
-    edges.add(EdgeId(7))?;
-    edges.add(EdgeId(5))?;
-    let copy = edges.copy()?;
+/// Takes the last edge off, adds one and removes the first: whether the list and its copy hold what is left.
+fn edges_beside(edges: &mut EdgeIds, copy: &EdgeIds) -> Result<bool, NoMemory> {
     let last = edges.pop();
     edges.add(EdgeId(9))?;
     edges.remove(EdgeId(5))?;
-    let left = edges.as_slice() == [EdgeId(9)].as_slice();
-    Ok((
-        last,
-        left,
-        copy.as_slice() == [EdgeId(5), EdgeId(7)].as_slice(),
-    ))
+    Ok(
+        last == Some(EdgeId(7))
+            && edges.as_slice() == [EdgeId(9)].as_slice()
+            && copy.as_slice() == [EdgeId(5), EdgeId(7)].as_slice(),
+    )
+}
+
+/// Adds two edges, copies, and changes the list.
+fn changed_edges(edges: &mut EdgeIds) -> Result<bool, NoMemory> {
+    edges.add(EdgeId(7))?;
+    edges.add(EdgeId(5))?;
+    let copy = edges.copy()?;
+    edges_beside(edges, &copy)
+}
+
+fn edges_hold(alloc: Global) -> Result<bool, NoMemory> {
+    let mut edges = EdgeIds::new(alloc);
+    Ok(
+        changed_edges(&mut edges)?
+            && edges.len() == 1
+            && edges.contains(EdgeId(9))
+            && edges.is_below(EdgeId(10)),
+    )
 }
 
 #[test]
 fn edges_are_added_and_removed_and_copies_stay(rt: HostRuntime) -> Result<(), Fail> {
-    let mut edges = EdgeIds::new(rt.alloc());
-    assert!(rt; changed_edges(&mut edges)? == (Some(EdgeId(7)), true, true));
-    assert!(rt; edges.len() == 1 && edges.contains(EdgeId(9)) && edges.is_below(EdgeId(10)));
+    assert!(rt; edges_hold(rt.alloc())?);
     Ok(())
 }
 
@@ -88,14 +132,29 @@ fn knows(alloc: Global) -> Result<EdgeRecord, NoMemory> {
     })
 }
 
+fn is_knows(edge: &EdgeRecord) -> bool {
+    edge.kind.as_str() == "knows" && edge.to == VertexId(7)
+}
+
+fn edge_is_copied(alloc: Global) -> Result<bool, NoMemory> {
+    let edge = knows(alloc)?;
+    Ok(is_knows(&edge.copy()?))
+}
+
+fn vertex_is_copied(alloc: Global) -> Result<bool, NoMemory> {
+    let vertex = VertexRecord::empty(alloc);
+    Ok(vertex.copy()?.props.len() == 0)
+}
+
+fn dead_is_copied() -> Result<bool, NoMemory> {
+    Ok(matches!(Object::Dead.copy()?, Object::Dead))
+}
+
 #[test]
 fn copies_of_records_hold_the_same(rt: HostRuntime) -> Result<(), Fail> {
-    let alloc = rt.alloc();
-    assert_eq!(rt; VertexRecord::empty(alloc).copy()?.props.len(), 0);
-    let copy = knows(alloc)?.copy()?;
-    assert!(rt; copy.kind.as_str() == "knows");
-    assert_eq!(rt; copy.to, VertexId(7));
-    assert!(rt; matches!(Object::Dead.copy()?, Object::Dead));
+    assert!(rt; vertex_is_copied(rt.alloc())?);
+    assert!(rt; edge_is_copied(rt.alloc())?);
+    assert!(rt; dead_is_copied()?);
     Ok(())
 }
 

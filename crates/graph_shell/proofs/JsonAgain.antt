@@ -240,3 +240,7 @@ level_again (Value-F.Edge e) h = elim h [ ]
 
 pub value_again : (v : Value) → IsSpelledValue v → json_value (value_text v) ≡ Some v
 value_again v h = level_again (out-Value v) h ∙ ap Some (roll-out-Value v)
+
+-- an integer as it is printed
+pub integer_again : (z : ℤ) → FitsSigned w64 z → json_value (compact_text (number (of_integer z))) ≡ Some (value.Int z)
+integer_again z h = flat_again (number (of_integer z)) _ (integer_read z h) (integer_flat z) (ap (option_map value.Int) (integer_from z h))

@@ -1,6 +1,7 @@
 mod Answering
 mod Cuts
 mod Endings
+mod Integers
 mod JsonAgain
 mod JsonTexts
 mod Lists

@@ -3,6 +3,7 @@ ghost use Rattle.std.specs.List.{list_all};
 ghost use Rattle.graph_shell.specs.Request.{event_of, is_blank, is_skipped, plain_event, request_of, words_event, worded_event};
 ghost use Rattle.graph_shell.specs.Words.{words_of};
 
+mod integer;
 mod number;
 mod object;
 mod reads;

@@ -50,7 +50,8 @@ fn answer_next<I: Source>(
 ) -> Result<(), Ending>
     ensures turn { WhereLeft I.Source input.old input.new (λ left left'.
         (es : List Entry) → StandsFor first_start core.old es → lines.old.passing ≡ false
-        → Continues result (StandsFor first_start core.new) (string_bytes reply.new) lines.old lines.new left left' es) }
+        → Continues result (StandsFor first_start core.new) (string_bytes reply.new)
+        lines.old lines.new left left' es) }
     ensures reads { Reads I.Source input.old input.new lines.old lines.new }
     ensures limit { IsTurnAfter result lines.new.taken }
     ensures fault { result ≡ Err Ending.SourceFault → SourceRose I.Source input.old input.new }

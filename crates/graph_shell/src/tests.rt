@@ -48,7 +48,7 @@ const PLAIN: Case = Case {
     output: b"",
 };
 
-const CASES: [Case; 18] = [
+static CASES: [Case; 18] = [
     PLAIN,
     Case {
         name: "nothing is asked",
@@ -191,135 +191,163 @@ fn filled(
     Ok(bytes)
 }
 
-fn source(alloc: Global, case: &Case, bytes: Vec<u8>) -> Result<MemorySource, NoMemory> {
-    let (piece, fault) = case.read;
-    Ok(MemorySource::new(bytes, piece.max(1), one_or_none(alloc, fault)?))
-}
-
 fn sink(alloc: Global, case: &Case) -> Result<MemorySink, NoMemory> {
     let (piece, fault) = case.write;
     MemorySink::with_room(alloc, 400, piece.max(1), one_or_none(alloc, fault)?)
 }
 
-/// The status, where the case's output was written; 255 elsewhere.
-fn status_of<I: Source>(
+/// Whether the case's status is given, and its output is written.
+fn ends_so<I: Source>(
     alloc: Global,
     case: &Case,
     words: &[Text],
     input: &mut I,
-) -> Result<u8, NoMemory> {
+) -> Result<bool, NoMemory> {
     let mut output = sink(alloc, case)?;
     let status = aeong_main(alloc, words, input, &mut output);
-    Ok(if output.bytes() == case.output {
-        status
-    } else {
-        255
-    })
+    Ok(status == case.status && output.bytes() == case.output)
 }
 
-fn case_status(alloc: Global, case: &Case, words: &[Text]) -> Result<u8, NoMemory> {
+/// The same, over these bytes.
+fn ends_so_over(
+    alloc: Global,
+    case: &Case,
+    words: &[Text],
+    bytes: Vec<u8>,
+) -> Result<bool, NoMemory> {
+    let (piece, fault) = case.read;
+    let mut input = MemorySource::new(bytes, piece.max(1), one_or_none(alloc, fault)?);
+    ends_so(alloc, case, words, &mut input)
+}
+
+fn is_as_wanted(alloc: Global, case: &Case, words: &[Text]) -> Result<bool, NoMemory> {
     match case.input {
-        Input::Bytes(bytes) => {
-            let mut input = source(alloc, case, bytes.to_vec(alloc)?)?;
-            status_of(alloc, case, words, &mut input)
-        }
+        Input::Bytes(bytes) => ends_so_over(alloc, case, words, bytes.to_vec(alloc)?),
         Input::Filled(front, count, back) => {
-            let mut input = source(
-                alloc,
-                case,
-                filled(alloc, front, (case.filling, count), back)?,
-            )?;
-            status_of(alloc, case, words, &mut input)
+            let bytes = filled(alloc, front, (case.filling, count), back)?;
+            ends_so_over(alloc, case, words, bytes)
         }
-        Input::LineEnds(count) => {
-            status_of(alloc, case, words, &mut SameBytes::new(b'\n', count))
-        }
+        Input::LineEnds(count) => ends_so(alloc, case, words, &mut SameBytes::new(b'\n', count)),
     }
 }
 
-fn is_as_wanted(alloc: Global, case: &Case) -> Result<bool, NoMemory> {
+fn holds(alloc: Global, case: &Case) -> Result<bool, NoMemory> {
     let words = [Text::from_str(alloc, case.word)?];
-    Ok(case_status(alloc, case, &words)? == case.status)
+    is_as_wanted(alloc, case, &words)
 }
 
 #[test]
 fn each_status_has_its_cause(rt: HostRuntime) -> Result<(), Fail> {
     for case in &CASES {
-        assert!(rt; is_as_wanted(rt.alloc(), case)?, "{}", case.name);
+        assert!(rt; holds(rt.alloc(), case)?, "{}", case.name);
     }
     Ok(())
+}
+
+/// The anchor of the command that the words are.
+fn anchor_of(words: &[Text]) -> Option<u64> {
+    match read_words(words) {
+        Some(Command::Events { anchor }) => Some(anchor),
+        None => None,
+    }
+}
+
+fn anchor_of_events(alloc: Global) -> Result<Option<u64>, NoMemory> {
+    Ok(anchor_of(&[Text::from_str(alloc, "events")?]))
+}
+
+fn anchor_of_two_words(alloc: Global) -> Result<Option<u64>, NoMemory> {
+    let words = [
+        Text::from_str(alloc, "events")?,
+        Text::from_str(alloc, "more")?,
+    ];
+    Ok(anchor_of(&words))
 }
 
 #[test]
 fn words_are_read(rt: HostRuntime) -> Result<(), Fail> {
     let alloc = rt.alloc();
-    let words = [
-        Text::from_str(alloc, "events")?,
-        Text::from_str(alloc, "more")?,
-    ];
-    assert!(rt; read_words(&[]).is_none());
-    assert!(rt; read_words(&words).is_none());
-    assert!(rt; matches!(read_words(&words[..1]), Some(Command::Events { anchor: 1 })));
+    assert!(rt; anchor_of(&[]).is_none());
+    assert!(rt; anchor_of_two_words(alloc)?.is_none());
+    assert!(rt; anchor_of_events(alloc)? == Some(1));
     Ok(())
 }
 
-#[test]
-fn arguments_that_are_no_text_are_wrong_words(rt: HostRuntime) -> Result<(), Fail> {
-    let alloc = rt.alloc();
+/// Why the arguments can't be read, the status that this gives, and what is written.
+type ArgumentsRow = (io::ErrorKind, u8, &'static [u8]);
+
+static ARGUMENTS: [ArgumentsRow; 2] = [
+    (
+        io::ErrorKind::InvalidData,
+        2,
+        b"usage: aeong events|script|load|serve\n",
+    ),
+    (io::ErrorKind::OutOfMemory, 5, b""),
+];
+
+fn is_args_answer(alloc: Global, row: &ArgumentsRow) -> Result<bool, NoMemory> {
     let mut output = sink(alloc, &PLAIN)?;
-    let args = Err(io::Error::from(io::ErrorKind::InvalidData));
+    let args = Err(io::Error::from(row.0));
     let status = answer_args(alloc, args, &mut SameBytes::new(b'x', 1), &mut output);
-    assert_eq!(rt; status, 2);
-    assert_eq!(rt;
-        output.bytes(),
-        b"usage: aeong events|script|load|serve\n".as_slice()
-    );
-    Ok(())
+    Ok(status == row.1 && output.bytes() == row.2)
 }
 
 #[test]
-fn arguments_without_memory_end_it(rt: HostRuntime) -> Result<(), Fail> {
-    let alloc = rt.alloc();
-    let mut output = sink(alloc, &PLAIN)?;
-    let args = Err(io::Error::from(io::ErrorKind::OutOfMemory));
-    let status = answer_args(alloc, args, &mut SameBytes::new(b'x', 1), &mut output);
-    assert_eq!(rt; status, 5);
-    assert!(rt; output.bytes().is_empty());
+fn arguments_that_cannot_be_read_are_answered(rt: HostRuntime) -> Result<(), Fail> {
+    for row in &ARGUMENTS {
+        assert!(rt; is_args_answer(rt.alloc(), row)?, "status {}", row.1);
+    }
     Ok(())
+}
+
+fn begins_at_another_anchor(alloc: Global) -> Result<bool, NoMemory> {
+    let mut input = MemorySource::new(b"1 begin\n".to_vec(alloc)?, 9, Vec::new(alloc));
+    begins_from(alloc, &mut input)
+}
+
+fn begins_from(alloc: Global, input: &mut MemorySource) -> Result<bool, NoMemory> {
+    let mut output = sink(alloc, &PLAIN)?;
+    let status = run_events(alloc, 1024, input, &mut output);
+    Ok(status == 0 && output.bytes() == b"1 begin 1\n".as_slice())
 }
 
 #[test]
 fn an_anchor_makes_no_difference(rt: HostRuntime) -> Result<(), Fail> {
-    let alloc = rt.alloc();
-    let mut output = sink(alloc, &PLAIN)?;
-    let mut input = source(alloc, &PLAIN, b"1 begin\n".to_vec(alloc)?)?;
-    assert_eq!(rt; run_events(alloc, 1024, &mut input, &mut output), 0);
-    assert_eq!(rt; output.bytes(), b"1 begin 1\n".as_slice());
+    assert!(rt; begins_at_another_anchor(rt.alloc())?);
     Ok(())
+}
+
+fn is_request(alloc: Global, line: &[u8]) -> Result<bool, NoMemory> {
+    Ok(read_request(alloc, line)?.is_some())
 }
 
 #[test]
 fn lines_are_told_apart(rt: HostRuntime) -> Result<(), Fail> {
     assert!(rt; is_skipped(b"# note"));
-    assert!(rt; read_request(rt.alloc(), b"1 begin")?.is_some());
-    assert!(rt; read_request(rt.alloc(), b"1 jump")?.is_none());
+    assert!(rt; is_request(rt.alloc(), b"1 begin")?);
+    assert!(rt; !is_request(rt.alloc(), b"1 jump")?);
     Ok(())
 }
 
-#[test]
-fn a_line_is_answered(rt: HostRuntime) -> Result<(), Fail> {
-    let alloc = rt.alloc();
+fn begin_is_answered(alloc: Global, reply: &mut String) -> Result<(), NoMemory> {
     let mut core = Core::new(alloc, 16)?;
+    answer_line(alloc, &mut core, b"1 begin", reply)
+}
+
+/// The answers to a line and to a bad line, one behind the other.
+fn two_answers(alloc: Global) -> Result<String, NoMemory> {
     let mut reply = String::new(alloc);
-    answer_line(alloc, &mut core, b"1 begin", &mut reply)?;
-    assert_eq!(rt; reply.as_str(), "1 begin 1\n");
-    Ok(())
+    begin_is_answered(alloc, &mut reply)?;
+    push_bad_line(&mut reply)?;
+    Ok(reply)
+}
+
+fn are_two_answers(alloc: Global, wanted: &str) -> Result<bool, NoMemory> {
+    Ok(two_answers(alloc)?.as_str() == wanted)
 }
 
 #[test]
-fn a_bad_line_is_answered(rt: HostRuntime) -> Result<(), Fail> {
-    let mut reply = String::new(rt.alloc());
-    push_bad_line(&mut reply)?;
-    assert_eq!(rt; reply.as_str(), "- refused 12 bad line\n");
+fn lines_are_answered(rt: HostRuntime) -> Result<(), Fail> {
+    assert!(rt; are_two_answers(rt.alloc(), "1 begin 1\n- refused 12 bad line\n")?);
     Ok(())
 }

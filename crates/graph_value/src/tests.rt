@@ -164,7 +164,7 @@ fn copies_as_keys(rt: HostRuntime) -> Result<(), Fail> {
 fn texts_and_names(rt: HostRuntime) -> Result<(), Fail> {
     let alloc = rt.alloc();
     let name = Name::from_str(alloc, "knows")?;
-    assert!(rt; name.copy(alloc)? == name);
+    assert!(rt; name.copy()? == name);
     assert!(rt; name.as_str() == "knows");
     assert!(rt; name < Name::from_str(alloc, "likes")?);
     let text = Text::from_string(String::from_str(alloc, "é")?);

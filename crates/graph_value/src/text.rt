@@ -12,6 +12,7 @@ use std::alloc::Global;
 use std::cmp::Ordering;
 use std::hash::{Hash, Hasher};
 use std::marker::Model;
+use std::sync::ArcStr;
 
 /// A text of UTF-8, which contracts see as the list of its bytes.
 #[derive(Debug, Drop)]
@@ -105,20 +106,21 @@ impl Hash for Text {
     }
 }
 
-/// A text that isn't empty: the name of a property, a label or a kind of edge.
+/// A text that isn't empty: the name of a property, a label or a kind of edge. Its copies share it.
 #[derive(Debug, Drop)]
 pub struct Name {
-    text: Text,
+    text: ArcStr,
 }
 
 impl Model for Name {
     ghost use Rattle.std.specs.Prelude.{List, ℕ, ◌<◌, length};
+    ghost use Rattle.std.specs.Arc.{arc_str_bytes};
 
     ghost Value = { List ℕ };
 
-    ghost view = { λ n. n.text };
+    ghost view = { λ n. arc_str_bytes n.text };
 
-    ghost invariant = { λ n. 0 < length n.text };
+    ghost invariant = { λ n. 0 < length (arc_str_bytes n.text) };
 }
 
 impl Name {
@@ -127,7 +129,7 @@ impl Name {
         requires { 0 < length text.now }
         ensures { IfOk result (λ n. n ≡ text.now) }
     {
-        let text = Text::from_str(alloc, text)?;
+        let text = ArcStr::from_str(alloc, text)?;
         Ok(Name { text })
     }
 
@@ -138,10 +140,12 @@ impl Name {
         self.text.as_str()
     }
 
-    pub fn copy(&self, alloc: Global) -> Result<Name, NoMemory>
+    /// The same name. It allocates nothing: the error says that the name has as many owners as can be counted.
+    pub fn copy(&self) -> Result<Name, NoMemory>
         ensures { IfOk result (λ n. n ≡ self.now) }
     {
-        Name::from_str(alloc, self.as_str())
+        let text = self.text.clone()?;
+        Ok(Name { text })
     }
 }
 

@@ -30,8 +30,8 @@ impl Delta {
         match self {
             Delta::DeleteObject => Ok(Delta::DeleteObject),
             Delta::RecreateObject(former) => Ok(Delta::RecreateObject(former.copy(alloc)?)),
-            Delta::AddLabel(name) => Ok(Delta::AddLabel(name.copy(alloc)?)),
-            Delta::RemoveLabel(name) => Ok(Delta::RemoveLabel(name.copy(alloc)?)),
+            Delta::AddLabel(name) => Ok(Delta::AddLabel(name.copy()?)),
+            Delta::RemoveLabel(name) => Ok(Delta::RemoveLabel(name.copy()?)),
             Delta::SetProperty(setting) => Ok(Delta::SetProperty(setting.copy(alloc)?)),
             Delta::AddInEdge(id) => Ok(Delta::AddInEdge(*id)),
             Delta::AddOutEdge(id) => Ok(Delta::AddOutEdge(*id)),

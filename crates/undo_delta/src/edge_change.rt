@@ -222,7 +222,7 @@ pub(crate) fn edge_record(
 ) -> Result<EdgeRecord, NoMemory>
     ensures { IfOk result (λ r. r ≡ new_edge kind.now from to) }
 {
-    let kind = Kind::new(alloc, kind.copy(alloc)?)?;
+    let kind = Kind::new(alloc, kind.copy()?)?;
     Ok(EdgeRecord {
         kind,
         from,

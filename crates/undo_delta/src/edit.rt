@@ -22,11 +22,12 @@ pub(crate) fn add_label(
 ) -> Result<DeltaPair, NoMemory>
     ensures ok { OnOk result (labels.new ≡ added name_cmp name.now labels.old) }
     ensures undo { IfOk result (λ pair. pair
-        ≡ cond (has name_cmp name.now labels.old) no_delta (one_delta (delta.RemoveLabel name.now))) }
+        ≡ cond (has name_cmp name.now labels.old)
+        no_delta (one_delta (delta.RemoveLabel name.now))) }
     ensures err { OnErr result (labels.new ≡ labels.old) }
 {
-    let kept = name.copy(alloc)?;
-    if labels.add(name.copy(alloc)?)? {
+    let kept = name.copy()?;
+    if labels.add(name.copy()?)? {
         Ok(DeltaPair::one(Delta::RemoveLabel(kept)))
     } else {
         Ok(DeltaPair::none())
@@ -41,10 +42,11 @@ pub(crate) fn remove_label(
 ) -> Result<DeltaPair, NoMemory>
     ensures ok { OnOk result (labels.new ≡ removed name_cmp name.now labels.old) }
     ensures undo { IfOk result (λ pair. pair
-        ≡ cond (has name_cmp name.now labels.old) (one_delta (delta.AddLabel name.now)) no_delta) }
+        ≡ cond (has name_cmp name.now labels.old)
+        (one_delta (delta.AddLabel name.now)) no_delta) }
     ensures err { OnErr result (labels.new ≡ labels.old) }
 {
-    let kept = name.copy(alloc)?;
+    let kept = name.copy()?;
     if labels.remove(name.as_str())? {
         Ok(DeltaPair::one(Delta::AddLabel(kept)))
     } else {
@@ -65,7 +67,7 @@ pub(crate) fn write_property(
     ensures err { OnErr result (props.new ≡ props.old) }
 {
     let value = value.copy(alloc)?;
-    props.set(name.copy(alloc)?, value)
+    props.set(name, value)
 }
 
 /// Gives the property this value, and leaves no delta where it has this value already. Without memory nothing changes.
@@ -80,7 +82,7 @@ pub(crate) fn set_value(
         ≡ setting_deltas name.now (value_or_null (find name_cmp name.now props.old)) value.now) }
     ensures err { OnErr result (props.new ≡ props.old) }
 {
-    let room = Setting::room(alloc, name.copy(alloc)?)?;
+    let room = Setting::room(alloc, props.shared_name(name)?)?;
     let former = write_property(alloc, props, name, value)?;
     Ok(undo_setting(room, value_or_null(former), value))
 }

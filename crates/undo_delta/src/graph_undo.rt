@@ -92,7 +92,7 @@ fn apply_to_vertex(alloc: Global, vertex: &mut VertexRecord, delta: &Delta) -> R
             write_property(alloc, &mut vertex.props, setting.name(), setting.value())?;
         }
         Delta::AddLabel(name) => {
-            vertex.labels.add(name.copy(alloc)?)?;
+            vertex.labels.add(name.copy()?)?;
         }
         Delta::RemoveLabel(name) => {
             vertex.labels.remove(name.as_str())?;

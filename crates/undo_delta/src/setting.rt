@@ -58,7 +58,7 @@ impl Setting {
         ensures { IfOk result (λ s. s ≡ self.now) }
     {
         let value = self.value().copy(alloc)?;
-        let mut copy = Setting::room(alloc, self.name().copy(alloc)?)?;
+        let mut copy = Setting::room(alloc, self.name().copy()?)?;
         copy.fill(value);
         Ok(copy)
     }

@@ -4,10 +4,11 @@ mod premises;
 mod shape;
 mod table;
 
-use crate::{Ask, GraphUndo};
+use crate::{Ask, GraphUndo, NoMemory};
 use edges::{EDGES, LOOPS, TOUCHES};
 use graph_record::Object;
 use graph_value::VertexId;
+use std::alloc::Global;
 use std::test::Fail;
 use table::{DELTAS, WRITES};
 use undo_law::Undo;
@@ -51,12 +52,18 @@ fn writes_touch_their_objects(rt: HostRuntime) -> Result<(), Fail> {
     Ok(())
 }
 
+fn dead_is_absent(alloc: Global) -> Result<bool, NoMemory> {
+    let dead = GraphUndo::copy_object(alloc, &Object::Dead)?;
+    Ok(GraphUndo::absent(&dead) && GraphUndo::same_object(&dead, &Object::Dead))
+}
+
+fn is_deletion_of_0(ask: &Ask) -> bool {
+    matches!(ask, Ask::DeleteVertex(VertexId(0)))
+}
+
 #[test]
 fn a_copy_of_what_is_dead_is_absent(rt: HostRuntime) -> Result<(), Fail> {
-    let dead = GraphUndo::copy_object(rt.alloc(), &Object::Dead)?;
-    assert!(rt; GraphUndo::absent(&dead));
-    assert!(rt; GraphUndo::same_object(&dead, &Object::Dead));
-    let asked = Ask::DeleteVertex(VertexId(0));
-    assert!(rt; matches!(asked, Ask::DeleteVertex(VertexId(0))));
+    assert!(rt; dead_is_absent(rt.alloc())?);
+    assert!(rt; is_deletion_of_0(&Ask::DeleteVertex(VertexId(0))));
     Ok(())
 }

@@ -13,27 +13,27 @@ pub fn has(names: &[Name], name: &Name) -> bool
 }
 
 /// Puts a name behind names.
-pub fn push(alloc: Global, names: &mut Items<Name>, name: &Name) -> Result<(), NoMemory>
+pub fn push(names: &mut Items<Name>, name: &Name) -> Result<(), NoMemory>
     ensures { OnOk result (names.new ≡ names.old ++ name.now ∷ []) }
 {
-    names.push(name.copy(alloc)?)
+    names.push(name.copy()?)
 }
 
 /// Puts a name behind names that don't have it.
-pub fn add(alloc: Global, names: &mut Items<Name>, name: &Name) -> Result<(), NoMemory>
+pub fn add(names: &mut Items<Name>, name: &Name) -> Result<(), NoMemory>
     ensures { OnOk result (names.new ≡ add names.old name.now) }
 {
     if has(names.as_slice(), name) {
         return Ok(());
     }
-    push(alloc, names, name)
+    push(names, name)
 }
 
-pub fn add_all(alloc: Global, names: &mut Items<Name>, more: &[Name]) -> Result<(), NoMemory>
+pub fn add_all(names: &mut Items<Name>, more: &[Name]) -> Result<(), NoMemory>
     ensures { OnOk result (names.new ≡ add_all names.old more.now) }
 {
     for name in more {
-        add(alloc, names, name)?;
+        add(names, name)?;
     }
     Ok(())
 }
@@ -43,7 +43,7 @@ pub fn copies(alloc: Global, names: &[Name]) -> Result<Items<Name>, NoMemory>
 {
     let mut copies = Items::new(alloc);
     for name in names {
-        copies.push(name.copy(alloc)?)?;
+        copies.push(name.copy()?)?;
     }
     Ok(copies)
 }

@@ -14,77 +14,73 @@ use std::alloc::Global;
 pub(crate) fn matched(alloc: Global, scope: &mut Scope, m: &MatchClause) -> Result<(), NoMemory>
     ensures { OnOk result (scope.new ≡ after scope.old (match_asks m.now)) }
 {
-    patterns(alloc, scope, m.patterns.as_slice())?;
+    patterns(scope, m.patterns.as_slice())?;
     scope.close(alloc)?;
-    filter(alloc, scope, &m.filter)
+    filter(scope, &m.filter)
 }
 
 /// UNWIND.
-pub(crate) fn unwound(alloc: Global, scope: &mut Scope, u: &Unwind) -> Result<(), NoMemory>
+pub(crate) fn unwound(scope: &mut Scope, u: &Unwind) -> Result<(), NoMemory>
     ensures { OnOk result (scope.new ≡ after scope.old (unwind_asks u.now)) }
 {
-    plain(alloc, scope, &u.list)?;
-    scope.unwind(alloc, &u.name)
+    plain(scope, &u.list)?;
+    scope.unwind(&u.name)
 }
 
 /// CREATE.
 pub(crate) fn created(alloc: Global, scope: &mut Scope, ps: &[Pattern]) -> Result<(), NoMemory>
     ensures { OnOk result (scope.new ≡ after scope.old (flat_map new_pattern_asks ps.now ++ Closes ∷ [])) }
 {
-    new_patterns(alloc, scope, ps)?;
+    new_patterns(scope, ps)?;
     scope.close(alloc)
 }
 
 /// One item of SET.
-pub(crate) fn set(alloc: Global, scope: &mut Scope, item: &SetItem) -> Result<(), NoMemory>
+pub(crate) fn set(scope: &mut Scope, item: &SetItem) -> Result<(), NoMemory>
     ensures { OnOk result (scope.new ≡ after scope.old (set_asks item.now)) }
 {
     match item {
         SetItem::Prop(name, _, value) => {
-            use_name(alloc, scope, name)?;
-            plain(alloc, scope, value)
+            use_name(scope, name)?;
+            plain(scope, value)
         }
-        SetItem::Labels(name, _) => use_name(alloc, scope, name),
+        SetItem::Labels(name, _) => use_name(scope, name),
     }
 }
 
-pub(crate) fn all_set(alloc: Global, scope: &mut Scope, items: &[SetItem]) -> Result<(), NoMemory>
+pub(crate) fn all_set(scope: &mut Scope, items: &[SetItem]) -> Result<(), NoMemory>
     ensures { OnOk result (scope.new ≡ after scope.old (flat_map set_asks items.now)) }
 {
     for item in items {
-        set(alloc, scope, item)?;
+        set(scope, item)?;
     }
     Ok(())
 }
 
 /// One item of REMOVE.
-pub(crate) fn removed(alloc: Global, scope: &mut Scope, item: &RemoveItem) -> Result<(), NoMemory>
+pub(crate) fn removed(scope: &mut Scope, item: &RemoveItem) -> Result<(), NoMemory>
     ensures { OnOk result (scope.new ≡ after scope.old (remove_asks item.now)) }
 {
     match item {
-        RemoveItem::Prop(name, _) | RemoveItem::Labels(name, _) => use_name(alloc, scope, name),
+        RemoveItem::Prop(name, _) | RemoveItem::Labels(name, _) => use_name(scope, name),
     }
 }
 
-pub(crate) fn all_removed(
-    alloc: Global,
-    scope: &mut Scope,
-    items: &[RemoveItem],
-) -> Result<(), NoMemory>
+pub(crate) fn all_removed(scope: &mut Scope, items: &[RemoveItem]) -> Result<(), NoMemory>
     ensures { OnOk result (scope.new ≡ after scope.old (flat_map remove_asks items.now)) }
 {
     for item in items {
-        removed(alloc, scope, item)?;
+        removed(scope, item)?;
     }
     Ok(())
 }
 
 /// DELETE.
-pub(crate) fn all_used(alloc: Global, scope: &mut Scope, names: &[Name]) -> Result<(), NoMemory>
+pub(crate) fn all_used(scope: &mut Scope, names: &[Name]) -> Result<(), NoMemory>
     ensures { OnOk result (scope.new ≡ after scope.old (flat_map uses names.now)) }
 {
     for name in names {
-        use_name(alloc, scope, name)?;
+        use_name(scope, name)?;
     }
     Ok(())
 }
@@ -95,9 +91,9 @@ pub(crate) fn updated(alloc: Global, scope: &mut Scope, update: &Update) -> Resu
 {
     match update {
         Update::Create(ps) => created(alloc, scope, ps.as_slice()),
-        Update::Set(items) => all_set(alloc, scope, items.as_slice()),
-        Update::Remove(items) => all_removed(alloc, scope, items.as_slice()),
-        Update::Delete { names, .. } => all_used(alloc, scope, names.as_slice()),
+        Update::Set(items) => all_set(scope, items.as_slice()),
+        Update::Remove(items) => all_removed(scope, items.as_slice()),
+        Update::Delete { names, .. } => all_used(scope, names.as_slice()),
     }
 }
 
@@ -107,7 +103,7 @@ pub(crate) fn clause(alloc: Global, scope: &mut Scope, c: &Clause) -> Result<(),
 {
     match c {
         Clause::Match(m) => matched(alloc, scope, m),
-        Clause::Unwind(u) => unwound(alloc, scope, u),
+        Clause::Unwind(u) => unwound(scope, u),
         Clause::Update(u) => updated(alloc, scope, u),
     }
 }

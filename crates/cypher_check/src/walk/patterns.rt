@@ -7,49 +7,35 @@ use crate::scope::Scope;
 use crate::walk::reads::map;
 use cypher_syntax::{EdgePattern, NodePattern, Pattern};
 use graph_value::{Name, NoMemory};
-use std::alloc::Global;
 
-pub(crate) fn vertex_name(
-    alloc: Global,
-    scope: &mut Scope,
-    name: &Option<Name>,
-) -> Result<(), NoMemory>
+pub(crate) fn vertex_name(scope: &mut Scope, name: &Option<Name>) -> Result<(), NoMemory>
     ensures { OnOk result (scope.new ≡ after scope.old (name_asks Vertex name.now)) }
 {
     match name {
-        Some(name) => scope.vertex(alloc, name),
+        Some(name) => scope.vertex(name),
         None => Ok(()),
     }
 }
 
-pub(crate) fn edge_name(
-    alloc: Global,
-    scope: &mut Scope,
-    name: &Option<Name>,
-) -> Result<(), NoMemory>
+pub(crate) fn edge_name(scope: &mut Scope, name: &Option<Name>) -> Result<(), NoMemory>
     ensures { OnOk result (scope.new ≡ after scope.old (name_asks Edge name.now)) }
 {
     match name {
-        Some(name) => scope.edge(alloc, name),
+        Some(name) => scope.edge(name),
         None => Ok(()),
     }
 }
 
-pub(crate) fn new_edge_name(
-    alloc: Global,
-    scope: &mut Scope,
-    name: &Option<Name>,
-) -> Result<(), NoMemory>
+pub(crate) fn new_edge_name(scope: &mut Scope, name: &Option<Name>) -> Result<(), NoMemory>
     ensures { OnOk result (scope.new ≡ after scope.old (name_asks NewEdge name.now)) }
 {
     match name {
-        Some(name) => scope.new_edge(alloc, name),
+        Some(name) => scope.new_edge(name),
         None => Ok(()),
     }
 }
 
 pub(crate) fn new_vertex_name(
-    alloc: Global,
     scope: &mut Scope,
     bare: bool,
     name: &Option<Name>,
@@ -57,54 +43,50 @@ pub(crate) fn new_vertex_name(
     ensures { OnOk result (scope.new ≡ after scope.old (name_asks (NewVertex bare) name.now)) }
 {
     match name {
-        Some(name) => scope.new_vertex(alloc, bare, name),
+        Some(name) => scope.new_vertex(bare, name),
         None => Ok(()),
     }
 }
 
 /// A vertex of MATCH.
-pub(crate) fn node(alloc: Global, scope: &mut Scope, n: &NodePattern) -> Result<(), NoMemory>
+pub(crate) fn node(scope: &mut Scope, n: &NodePattern) -> Result<(), NoMemory>
     ensures { OnOk result (scope.new ≡ after scope.old (node_asks n.now)) }
 {
-    vertex_name(alloc, scope, &n.name)?;
-    map(alloc, scope, &n.map)
+    vertex_name(scope, &n.name)?;
+    map(scope, &n.map)
 }
 
 /// An edge of MATCH.
-pub(crate) fn edge(alloc: Global, scope: &mut Scope, e: &EdgePattern) -> Result<(), NoMemory>
+pub(crate) fn edge(scope: &mut Scope, e: &EdgePattern) -> Result<(), NoMemory>
     ensures { OnOk result (scope.new ≡ after scope.old (edge_asks e.now)) }
 {
-    edge_name(alloc, scope, &e.name)?;
-    map(alloc, scope, &e.map)
+    edge_name(scope, &e.name)?;
+    map(scope, &e.map)
 }
 
-pub(crate) fn steps(
-    alloc: Global,
-    scope: &mut Scope,
-    steps: &[(EdgePattern, NodePattern)],
-) -> Result<(), NoMemory>
+pub(crate) fn steps(scope: &mut Scope, steps: &[(EdgePattern, NodePattern)]) -> Result<(), NoMemory>
     ensures { OnOk result (scope.new ≡ after scope.old (flat_map (λ s. edge_asks s.0 ++ node_asks s.1) steps.now)) }
 {
     for (e, n) in steps {
-        edge(alloc, scope, e)?;
-        node(alloc, scope, n)?;
+        edge(scope, e)?;
+        node(scope, n)?;
     }
     Ok(())
 }
 
 /// A pattern of MATCH.
-pub(crate) fn pattern(alloc: Global, scope: &mut Scope, p: &Pattern) -> Result<(), NoMemory>
+pub(crate) fn pattern(scope: &mut Scope, p: &Pattern) -> Result<(), NoMemory>
     ensures { OnOk result (scope.new ≡ after scope.old (pattern_asks p.now)) }
 {
-    node(alloc, scope, &p.first)?;
-    steps(alloc, scope, p.steps.as_slice())
+    node(scope, &p.first)?;
+    steps(scope, p.steps.as_slice())
 }
 
-pub(crate) fn patterns(alloc: Global, scope: &mut Scope, ps: &[Pattern]) -> Result<(), NoMemory>
+pub(crate) fn patterns(scope: &mut Scope, ps: &[Pattern]) -> Result<(), NoMemory>
     ensures { OnOk result (scope.new ≡ after scope.old (flat_map pattern_asks ps.now)) }
 {
     for p in ps {
-        pattern(alloc, scope, p)?;
+        pattern(scope, p)?;
     }
     Ok(())
 }
@@ -117,53 +99,47 @@ fn is_bare(alone: bool, n: &NodePattern) -> bool
 }
 
 /// A vertex of CREATE.
-pub(crate) fn new_node(
-    alloc: Global,
-    scope: &mut Scope,
-    alone: bool,
-    n: &NodePattern,
-) -> Result<(), NoMemory>
+pub(crate) fn new_node(scope: &mut Scope, alone: bool, n: &NodePattern) -> Result<(), NoMemory>
     ensures { OnOk result (scope.new ≡ after scope.old (new_node_asks alone n.now)) }
 {
-    new_vertex_name(alloc, scope, is_bare(alone, n), &n.name)?;
-    map(alloc, scope, &n.map)
+    new_vertex_name(scope, is_bare(alone, n), &n.name)?;
+    map(scope, &n.map)
 }
 
 /// An edge of CREATE.
-pub(crate) fn new_edge(alloc: Global, scope: &mut Scope, e: &EdgePattern) -> Result<(), NoMemory>
+pub(crate) fn new_edge(scope: &mut Scope, e: &EdgePattern) -> Result<(), NoMemory>
     ensures { OnOk result (scope.new ≡ after scope.old (new_edge_asks e.now)) }
 {
-    new_edge_name(alloc, scope, &e.name)?;
-    map(alloc, scope, &e.map)
+    new_edge_name(scope, &e.name)?;
+    map(scope, &e.map)
 }
 
 pub(crate) fn new_steps(
-    alloc: Global,
     scope: &mut Scope,
     steps: &[(EdgePattern, NodePattern)],
 ) -> Result<(), NoMemory>
     ensures { OnOk result (scope.new ≡ after scope.old (flat_map (λ s. new_edge_asks s.0 ++ new_node_asks false s.1) steps.now)) }
 {
     for (e, n) in steps {
-        new_edge(alloc, scope, e)?;
-        new_node(alloc, scope, false, n)?;
+        new_edge(scope, e)?;
+        new_node(scope, false, n)?;
     }
     Ok(())
 }
 
 /// A pattern of CREATE.
-pub(crate) fn new_pattern(alloc: Global, scope: &mut Scope, p: &Pattern) -> Result<(), NoMemory>
+pub(crate) fn new_pattern(scope: &mut Scope, p: &Pattern) -> Result<(), NoMemory>
     ensures { OnOk result (scope.new ≡ after scope.old (new_pattern_asks p.now)) }
 {
-    new_node(alloc, scope, p.steps.is_empty(), &p.first)?;
-    new_steps(alloc, scope, p.steps.as_slice())
+    new_node(scope, p.steps.is_empty(), &p.first)?;
+    new_steps(scope, p.steps.as_slice())
 }
 
-pub(crate) fn new_patterns(alloc: Global, scope: &mut Scope, ps: &[Pattern]) -> Result<(), NoMemory>
+pub(crate) fn new_patterns(scope: &mut Scope, ps: &[Pattern]) -> Result<(), NoMemory>
     ensures { OnOk result (scope.new ≡ after scope.old (flat_map new_pattern_asks ps.now)) }
 {
     for p in ps {
-        new_pattern(alloc, scope, p)?;
+        new_pattern(scope, p)?;
     }
     Ok(())
 }

@@ -37,21 +37,21 @@ fn given_name(i: &Item) -> Option<&Name>
 }
 
 /// An item of WITH or RETURN.
-pub(crate) fn item(alloc: Global, scope: &mut Scope, i: &Item) -> Result<(), NoMemory>
+pub(crate) fn item(scope: &mut Scope, i: &Item) -> Result<(), NoMemory>
     ensures { OnOk result (scope.new ≡ after scope.old (item_asks i.now)) }
 {
-    read(alloc, scope, &i.expr, item_place(&i.expr))?;
+    read(scope, &i.expr, item_place(&i.expr))?;
     match given_name(i) {
-        Some(name) => scope.give(alloc, name),
+        Some(name) => scope.give(name),
         None => Ok(()),
     }
 }
 
-pub(crate) fn items(alloc: Global, scope: &mut Scope, is: &[Item]) -> Result<(), NoMemory>
+pub(crate) fn items(scope: &mut Scope, is: &[Item]) -> Result<(), NoMemory>
     ensures { OnOk result (scope.new ≡ after scope.old (flat_map item_asks is.now)) }
 {
     for i in is {
-        item(alloc, scope, i)?;
+        item(scope, i)?;
     }
     Ok(())
 }
@@ -76,30 +76,20 @@ fn is_item(is: &[Item], e: &Expr) -> bool
 }
 
 /// A key of ORDER BY.
-pub(crate) fn sort(
-    alloc: Global,
-    scope: &mut Scope,
-    is: &[Item],
-    key: &Sort,
-) -> Result<(), NoMemory>
+pub(crate) fn sort(scope: &mut Scope, is: &[Item], key: &Sort) -> Result<(), NoMemory>
     ensures { OnOk result (scope.new ≡ after scope.old (sort_asks is.now key.now)) }
 {
     if is_item(is, &key.expr) {
         return Ok(());
     }
-    plain(alloc, scope, &key.expr)
+    plain(scope, &key.expr)
 }
 
-pub(crate) fn sorts(
-    alloc: Global,
-    scope: &mut Scope,
-    is: &[Item],
-    keys: &[Sort],
-) -> Result<(), NoMemory>
+pub(crate) fn sorts(scope: &mut Scope, is: &[Item], keys: &[Sort]) -> Result<(), NoMemory>
     ensures { OnOk result (scope.new ≡ after scope.old (flat_map (sort_asks is.now) keys.now)) }
 {
     for key in keys {
-        sort(alloc, scope, is, key)?;
+        sort(scope, is, key)?;
     }
     Ok(())
 }
@@ -125,13 +115,13 @@ pub(crate) fn tail(
     let is = p.items.as_slice();
     if closed {
         scope.narrow(alloc)?;
-        sorts(alloc, scope, is, p.sort.as_slice())?;
-        return filter(alloc, scope, &p.filter);
+        sorts(scope, is, p.sort.as_slice())?;
+        return filter(scope, &p.filter);
     }
-    scope.widen(alloc)?;
-    sorts(alloc, scope, is, p.sort.as_slice())?;
+    scope.widen()?;
+    sorts(scope, is, p.sort.as_slice())?;
     scope.narrow(alloc)?;
-    filter(alloc, scope, &p.filter)
+    filter(scope, &p.filter)
 }
 
 /// WITH or RETURN.
@@ -139,7 +129,7 @@ pub(crate) fn projection(alloc: Global, scope: &mut Scope, p: &Projection) -> Re
     ensures { OnOk result (scope.new ≡ after scope.old (projection_asks p.now)) }
 {
     star(alloc, scope, p.star)?;
-    items(alloc, scope, p.items.as_slice())?;
+    items(scope, p.items.as_slice())?;
     tail(alloc, scope, is_closed(p), p)
 }
 

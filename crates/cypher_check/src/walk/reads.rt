@@ -12,18 +12,17 @@ use crate::scope::Scope;
 use cypher_syntax::Expr;
 use graph_value::{Name, NoMemory};
 use sqlite_items::Items;
-use std::alloc::Global;
 
 /// An expression at a place.
 #[tactic(auto, unfolding(crate::specs::Asks::step))]
-pub(crate) fn read(alloc: Global, scope: &mut Scope, e: &Expr, place: Place) -> Result<(), NoMemory>
+pub(crate) fn read(scope: &mut Scope, e: &Expr, place: Place) -> Result<(), NoMemory>
     ensures { OnOk result (scope.new ≡ step scope.old (Reads (expr_marks e.now place))) }
 {
     if scope.fault.is_some() {
         return Ok(());
     }
     let found = expr(scope.names.as_slice(), e, place);
-    scope.read(alloc, found)
+    scope.read(found)
 }
 
 /// Whether an aggregate stands in an expression.
@@ -34,60 +33,48 @@ pub(crate) fn has_aggregate(e: &Expr) -> bool
 }
 
 /// An expression in which no aggregate may stand.
-pub(crate) fn plain(alloc: Global, scope: &mut Scope, e: &Expr) -> Result<(), NoMemory>
+pub(crate) fn plain(scope: &mut Scope, e: &Expr) -> Result<(), NoMemory>
     ensures { OnOk result (scope.new ≡ after scope.old (plain e.now)) }
 {
-    read(alloc, scope, e, Place::Plain)
+    read(scope, e, Place::Plain)
 }
 
 /// A name that stands alone.
 #[tactic(auto, unfolding(crate::specs::Asks::step))]
-pub(crate) fn use_name(alloc: Global, scope: &mut Scope, name: &Name) -> Result<(), NoMemory>
+pub(crate) fn use_name(scope: &mut Scope, name: &Name) -> Result<(), NoMemory>
     ensures { OnOk result (scope.new ≡ after scope.old (uses name.now)) }
 {
     if scope.fault.is_none() && !has(scope.names.as_slice(), name) {
-        scope.fail(CheckRefused::Unbound(name.copy(alloc)?));
+        scope.fail(CheckRefused::Unbound(name.copy()?));
     }
     Ok(())
 }
 
 /// The condition of a WHERE.
-pub(crate) fn filter(
-    alloc: Global,
-    scope: &mut Scope,
-    filter: &Option<Expr>,
-) -> Result<(), NoMemory>
+pub(crate) fn filter(scope: &mut Scope, filter: &Option<Expr>) -> Result<(), NoMemory>
     ensures { OnOk result (scope.new ≡ after scope.old (filter_asks filter.now)) }
 {
     match filter {
-        Some(e) => plain(alloc, scope, e),
+        Some(e) => plain(scope, e),
         None => Ok(()),
     }
 }
 
-pub(crate) fn properties(
-    alloc: Global,
-    scope: &mut Scope,
-    properties: &[(Name, Expr)],
-) -> Result<(), NoMemory>
+pub(crate) fn properties(scope: &mut Scope, properties: &[(Name, Expr)]) -> Result<(), NoMemory>
     ensures { OnOk result (scope.new ≡ after scope.old (flat_map (λ p. plain p.1) properties.now)) }
 {
     for (_, e) in properties {
-        plain(alloc, scope, e)?;
+        plain(scope, e)?;
     }
     Ok(())
 }
 
 /// The properties between braces.
-pub(crate) fn map(
-    alloc: Global,
-    scope: &mut Scope,
-    map: &Option<Items<(Name, Expr)>>,
-) -> Result<(), NoMemory>
+pub(crate) fn map(scope: &mut Scope, map: &Option<Items<(Name, Expr)>>) -> Result<(), NoMemory>
     ensures { OnOk result (scope.new ≡ after scope.old (map_asks map.now)) }
 {
     match map {
-        Some(map) => properties(alloc, scope, map.as_slice()),
+        Some(map) => properties(scope, map.as_slice()),
         None => Ok(()),
     }
 }

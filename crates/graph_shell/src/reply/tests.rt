@@ -1,127 +1,169 @@
 ghost use Rattle.world_model.specs.Replies.{IsAnswerTo};
+ghost use Rattle.world_model.specs.declared.event.Asked.TheVariants as asked;
 
 use super::*;
 use graph_record::VertexRecord;
 use graph_value::{EdgeId, VertexId};
 use std::test::Fail;
 
-fn reply(alloc: Global, caller: u64, asked: Asked, answer: &Answer) -> Result<String, NoMemory>
+/// An answer whose event asks to be told nothing else.
+#[derive(Clone, Copy)]
+enum Said {
+    Refused(Refused),
+    Wrote(Wrote),
+    Begun(u64),
+    Committed(u64),
+    Aborted,
+    Marked(Marked),
+}
+
+/// An answer, and its line to caller 1.
+type Row = (Said, &'static str);
+
+/// What is found among the objects of a kind, and its line to caller 1.
+type FoundRow = (Kind, Option<u64>, &'static str);
+
+const V0: Oid = Oid::Vertex(VertexId(0));
+
+const E12: Oid = Oid::Edge(EdgeId(12));
+
+static REFUSALS: [Row; 11] = [
+    (
+        Said::Refused(Refused::NoTxn),
+        "1 refused 1 no transaction\n",
+    ),
+    (
+        Said::Refused(Refused::AlreadyOpen),
+        "1 refused 2 already open\n",
+    ),
+    (
+        Said::Refused(Refused::Missing(V0)),
+        "1 refused 3 missing v0\n",
+    ),
+    (
+        Said::Refused(Refused::Conflict(V0, Rival::Running { start: 4 })),
+        "1 refused 4 conflict v0 open 4\n",
+    ),
+    (
+        Said::Refused(Refused::Conflict(E12, Rival::Committed { ts: 9 })),
+        "1 refused 4 conflict e12 committed 9\n",
+    ),
+    (
+        Said::Refused(Refused::HasEdges(VertexId(7))),
+        "1 refused 5 has edges v7\n",
+    ),
+    (
+        Said::Refused(Refused::TimeAhead { t: 3, start: 2 }),
+        "1 refused 6 time ahead 3 start 2\n",
+    ),
+    (Said::Refused(Refused::ClockEnd), "1 refused 7 clock end\n"),
+    (Said::Refused(Refused::TooMany), "1 refused 9 too many\n"),
+    (Said::Refused(Refused::IdEnd), "1 refused 10 id end\n"),
+    (Said::Refused(Refused::NoMemory), "1 refused 11 no memory\n"),
+];
+
+static ANSWERS: [Row; 8] = [
+    (Said::Wrote(Wrote::Done), "1 done\n"),
+    (Said::Wrote(Wrote::Unchanged), "1 unchanged\n"),
+    (Said::Wrote(Wrote::Vertex(VertexId(5))), "1 v5\n"),
+    (Said::Wrote(Wrote::Edge(EdgeId(6))), "1 e6\n"),
+    (Said::Begun(7), "1 begin 7\n"),
+    (Said::Committed(8), "1 commit 8\n"),
+    (Said::Aborted, "1 abort\n"),
+    (
+        Said::Marked(Marked {
+            mark: 3,
+            clock: 9,
+            vertices: 1,
+            edges: 2,
+        }),
+        "1 mark 3 clock 9\n",
+    ),
+];
+
+static FOUND: [FoundRow; 4] = [
+    (Kind::Vertex, Some(3), "1 v3\n"),
+    (Kind::Edge, Some(1), "1 e1\n"),
+    (Kind::Vertex, None, "1 none\n"),
+    (Kind::Edge, None, "1 none\n"),
+];
+
+fn answer_of(said: Said) -> Answer
+    ensures { IsAnswerTo asked.Nothing result }
+{
+    match said {
+        Said::Refused(why) => Answer::Refused(why),
+        Said::Wrote(what) => Answer::Wrote(what),
+        Said::Begun(start) => Answer::Begun(start),
+        Said::Committed(ts) => Answer::Committed(ts),
+        Said::Aborted => Answer::Aborted,
+        Said::Marked(marked) => Answer::Marked(marked),
+    }
+}
+
+/// Whether the answer's line is this one.
+fn is_line(alloc: Global, asked: Asked, answer: &Answer, wanted: &str) -> Result<bool, NoMemory>
     requires { IsAnswerTo asked answer.now }
 {
     let mut out = String::new(alloc);
-    push_reply(alloc, &mut out, caller, asked, answer)?;
-    Ok(out)
+    push_reply(alloc, &mut out, 1, asked, answer)?;
+    Ok(out.as_str() == wanted)
 }
 
-/// Whether the answer to caller 1 is the wanted line.
-fn prints(alloc: Global, asked: Asked, answer: Answer, wanted: &str) -> Result<bool, NoMemory>
-    requires { IsAnswerTo asked answer }
-{
-    Ok(reply(alloc, 1, asked, &answer)?.as_str() == wanted)
+fn is_printed(alloc: Global, row: &Row) -> Result<bool, NoMemory> {
+    let answer = answer_of(row.0);
+    is_line(alloc, Asked::Nothing, &answer, row.1)
+}
+
+fn is_found_printed(alloc: Global, row: &FoundRow) -> Result<bool, NoMemory> {
+    let answer = Answer::Id(row.1);
+    is_line(alloc, Asked::Number(row.0), &answer, row.2)
+}
+
+fn is_dead_printed(alloc: Global) -> Result<bool, NoMemory> {
+    let answer = Answer::Version(Object::Dead);
+    is_line(alloc, Asked::Version(V0), &answer, "1 dead\n")
+}
+
+fn is_empty_printed(alloc: Global, wanted: &str) -> Result<bool, NoMemory> {
+    let answer = Answer::Version(Object::Vertex(VertexRecord::empty(alloc)));
+    is_line(alloc, Asked::Version(V0), &answer, wanted)
+}
+
+/// The first of the lines that its answer isn't printed as.
+fn first_unprinted(alloc: Global, rows: &[Row]) -> Result<Option<&'static str>, NoMemory> {
+    for row in rows {
+        if !is_printed(alloc, row)? {
+            return Ok(Some(row.1));
+        }
+    }
+    Ok(None)
 }
 
 #[test]
 fn prints_refusals(rt: HostRuntime) -> Result<(), Fail> {
-    let x = Oid::Vertex(VertexId(0));
-    let y = Oid::Edge(EdgeId(12));
-    let table = [
-        (Refused::NoTxn, "1 refused 1 no transaction\n"),
-        (Refused::AlreadyOpen, "1 refused 2 already open\n"),
-        (Refused::Missing(x), "1 refused 3 missing v0\n"),
-        (
-            Refused::Conflict(x, Rival::Running { start: 4 }),
-            "1 refused 4 conflict v0 open 4\n",
-        ),
-        (
-            Refused::Conflict(y, Rival::Committed { ts: 9 }),
-            "1 refused 4 conflict e12 committed 9\n",
-        ),
-        (Refused::HasEdges(VertexId(7)), "1 refused 5 has edges v7\n"),
-        (
-            Refused::TimeAhead { t: 3, start: 2 },
-            "1 refused 6 time ahead 3 start 2\n",
-        ),
-        (Refused::ClockEnd, "1 refused 7 clock end\n"),
-        (Refused::TooMany, "1 refused 9 too many\n"),
-        (Refused::IdEnd, "1 refused 10 id end\n"),
-        (Refused::NoMemory, "1 refused 11 no memory\n"),
-    ];
-    for (why, wanted) in table {
-        assert!(rt;
-            prints(rt.alloc(), Asked::Nothing, Answer::Refused(why), wanted)?,
-            "{wanted}"
-        );
-    }
+    assert_eq!(rt; first_unprinted(rt.alloc(), &REFUSALS)?, None);
     Ok(())
 }
 
 #[test]
 fn prints_answers(rt: HostRuntime) -> Result<(), Fail> {
-    let table = [
-        (Wrote::Done, "1 done\n"),
-        (Wrote::Unchanged, "1 unchanged\n"),
-        (Wrote::Vertex(VertexId(5)), "1 v5\n"),
-        (Wrote::Edge(EdgeId(6)), "1 e6\n"),
-    ];
-    for (what, wanted) in table {
-        assert!(rt;
-            prints(rt.alloc(), Asked::Nothing, Answer::Wrote(what), wanted)?,
-            "{wanted}"
-        );
-    }
-    assert!(rt; prints(rt.alloc(), Asked::Nothing, Answer::Begun(7), "1 begin 7\n")?);
-    assert!(rt;
-        prints(
-            rt.alloc(),
-            Asked::Nothing,
-            Answer::Committed(8),
-            "1 commit 8\n"
-        )?
-    );
-    assert!(rt; prints(rt.alloc(), Asked::Nothing, Answer::Aborted, "1 abort\n")?);
+    assert_eq!(rt; first_unprinted(rt.alloc(), &ANSWERS)?, None);
     Ok(())
-}
-
-#[test]
-fn prints_marks(rt: HostRuntime) -> Result<(), Fail> {
-    let marked = Marked {
-        mark: 3,
-        clock: 9,
-        vertices: 1,
-        edges: 2,
-    };
-    assert!(rt;
-        prints(
-            rt.alloc(),
-            Asked::Nothing,
-            Answer::Marked(marked),
-            "1 mark 3 clock 9\n"
-        )?
-    );
-    Ok(())
-}
-
-/// What is found among the vertices or the edges.
-fn finds(alloc: Global, kind: Kind, id: Option<u64>, wanted: &str) -> Result<bool, NoMemory> {
-    prints(alloc, Asked::Number(kind), Answer::Id(id), wanted)
 }
 
 #[test]
 fn prints_found_objects(rt: HostRuntime) -> Result<(), Fail> {
-    assert!(rt; finds(rt.alloc(), Kind::Vertex, Some(3), "1 v3\n")?);
-    assert!(rt; finds(rt.alloc(), Kind::Edge, Some(1), "1 e1\n")?);
-    assert!(rt; finds(rt.alloc(), Kind::Vertex, None, "1 none\n")?);
-    assert!(rt; finds(rt.alloc(), Kind::Edge, None, "1 none\n")?);
+    for row in &FOUND {
+        assert!(rt; is_found_printed(rt.alloc(), row)?, "{}", row.2);
+    }
     Ok(())
 }
 
 #[test]
 fn prints_versions(rt: HostRuntime) -> Result<(), Fail> {
-    let alloc = rt.alloc();
-    let x = Asked::Version(Oid::Vertex(VertexId(0)));
-    assert!(rt; prints(alloc, x, Answer::Version(Object::Dead), "1 dead\n")?);
-    let vertex = Object::Vertex(VertexRecord::empty(alloc));
+    assert!(rt; is_dead_printed(rt.alloc())?);
     let wanted = "1 {\"id\":0,\"ins\":[],\"labels\":[],\"outs\":[],\"properties\":{}}\n";
-    assert!(rt; prints(alloc, x, Answer::Version(vertex), wanted)?);
+    assert!(rt; is_empty_printed(rt.alloc(), wanted)?);
     Ok(())
 }

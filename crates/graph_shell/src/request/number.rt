@@ -1,7 +1,7 @@
-ghost use Rattle.std.specs.Prelude.{◌≡◌, ◌<◌, IfSome};
+ghost use Rattle.std.specs.Prelude.{◌≡◌, ◌<◌, ◌≤◌, IfNone, IfSome, IsTrue};
 ghost use Rattle.std.specs.List.{list_all};
 ghost use Rattle.std.specs.Char.{is_ascii_digit};
-ghost use Rattle.graph_shell.specs.Words.{is_number, number_below};
+ghost use Rattle.graph_shell.specs.Words.{is_number, number_below, value_of};
 
 /// Whether a word has nothing but digits.
 fn has_only_digits(word: &[u8]) -> bool
@@ -29,11 +29,28 @@ pub fn number_below(word: &[u8], limit: u64) -> Option<u64>
     if !is_number(word) {
         return None;
     }
-    let Ok(text) = str::from_utf8(word) else {
-        return None;
-    };
-    let Ok(n) = text.parse::<u64>() else {
-        return None;
-    };
-    (n < limit).then_some(n)
+    value_below(word, limit)
+}
+
+/// The number that digits stand for, or `None` where it isn't below `limit`. Most numbers of a line have a few digits,
+/// and std would read them from a text that has to be made first.
+fn value_below(digits: &[u8], limit: u64) -> Option<u64>
+    requires { IsTrue (list_all is_ascii_digit digits.now) }
+    ensures value { IfSome result (λ n. n ≡ value_of digits.now) }
+    ensures below { IfSome result (λ n. n < limit) }
+    ensures great { IfNone result (limit ≤ value_of digits.now) }
+{
+    let limit = u128::from(limit);
+    let mut value = 0;
+    for digit in digits {
+        if value >= limit {
+            return None;
+        }
+        value = value * 10 + u128::from(*digit - b'0');
+    }
+    if value < limit {
+        Some(value as u64)
+    } else {
+        None
+    }
 }

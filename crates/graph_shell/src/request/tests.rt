@@ -4,12 +4,40 @@ use super::*;
 use std::test::Fail;
 use told::told;
 
+/// A line, and the request that it is, in other words.
+type Row = (&'static str, &'static str);
+
 /// Whether the line is this request.
-fn is_told(alloc: Global, line: &str, wanted: &str) -> Result<bool, NoMemory> {
-    Ok(told(alloc, line.as_bytes())?.as_str() == wanted)
+fn is_told(alloc: Global, row: &Row) -> Result<bool, NoMemory> {
+    Ok(told(alloc, row.0.as_bytes())?.as_str() == row.1)
 }
 
-const PLAIN: [(&str, &str); 8] = [
+/// The first of the lines that isn't its request.
+fn first_untold(alloc: Global, rows: &[Row]) -> Result<Option<&'static str>, NoMemory> {
+    for row in rows {
+        if !is_told(alloc, row)? {
+            return Ok(Some(row.0));
+        }
+    }
+    Ok(None)
+}
+
+/// Whether the line is no request.
+fn is_refused(alloc: Global, line: &[u8]) -> Result<bool, NoMemory> {
+    Ok(read_request(alloc, line)?.is_none())
+}
+
+/// The first of the lines that is a request.
+fn first_taken(alloc: Global, lines: &[&'static str]) -> Result<Option<&'static str>, NoMemory> {
+    for line in lines {
+        if !is_refused(alloc, line.as_bytes())? {
+            return Ok(Some(*line));
+        }
+    }
+    Ok(None)
+}
+
+static PLAIN: [Row; 8] = [
     ("1 begin", "1: opens"),
     ("0 begin", "0: opens"),
     ("4294967295 begin", "4294967295: opens"),
@@ -22,13 +50,11 @@ const PLAIN: [(&str, &str); 8] = [
 
 #[test]
 fn reads_plain_verbs(rt: HostRuntime) -> Result<(), Fail> {
-    for (line, wanted) in PLAIN {
-        assert!(rt; is_told(rt.alloc(), line, wanted)?, "at {line}");
-    }
+    assert_eq!(rt; first_untold(rt.alloc(), &PLAIN)?, None);
     Ok(())
 }
 
-const READS: [(&str, &str); 10] = [
+static READS: [Row; 10] = [
     ("1 read v0 own", "1: vertex 0 now"),
     ("1 read e10 own", "1: edge 10 now"),
     ("1 read v0 at 0", "1: vertex 0 then 0"),
@@ -49,13 +75,11 @@ const READS: [(&str, &str); 10] = [
 
 #[test]
 fn reads_reads(rt: HostRuntime) -> Result<(), Fail> {
-    for (line, wanted) in READS {
-        assert!(rt; is_told(rt.alloc(), line, wanted)?, "at {line}");
-    }
+    assert_eq!(rt; first_untold(rt.alloc(), &READS)?, None);
     Ok(())
 }
 
-const WRITES: [(&str, &str); 9] = [
+static WRITES: [Row; 9] = [
     ("1 delete v0", "1: no vertex 0 "),
     ("1 delete e12", "1: no edge 12 "),
     ("1 label v0 P", "1: mark vertex 0 P"),
@@ -72,13 +96,11 @@ const WRITES: [(&str, &str); 9] = [
 
 #[test]
 fn reads_writes(rt: HostRuntime) -> Result<(), Fail> {
-    for (line, wanted) in WRITES {
-        assert!(rt; is_told(rt.alloc(), line, wanted)?, "at {line}");
-    }
+    assert_eq!(rt; first_untold(rt.alloc(), &WRITES)?, None);
     Ok(())
 }
 
-const VALUES: [(&str, &str); 20] = [
+static VALUES: [Row; 20] = [
     ("1 set v5 k 1", "1: vertex 5 k: 1"),
     ("1 set e5 _k9 0", "1: edge 5 _k9: 0"),
     (
@@ -112,18 +134,11 @@ const VALUES: [(&str, &str); 20] = [
 
 #[test]
 fn reads_values(rt: HostRuntime) -> Result<(), Fail> {
-    for (line, wanted) in VALUES {
-        assert!(rt; is_told(rt.alloc(), line, wanted)?, "at {line}");
-    }
+    assert_eq!(rt; first_untold(rt.alloc(), &VALUES)?, None);
     Ok(())
 }
 
-/// Whether the line is no request.
-fn is_refused(alloc: Global, line: &str) -> Result<bool, NoMemory> {
-    Ok(read_request(alloc, line.as_bytes())?.is_none())
-}
-
-const NO_WORDS: [&str; 24] = [
+static NO_WORDS: [&str; 24] = [
     "",
     "1",
     "1 ",
@@ -152,13 +167,11 @@ const NO_WORDS: [&str; 24] = [
 
 #[test]
 fn refuses_other_words(rt: HostRuntime) -> Result<(), Fail> {
-    for line in NO_WORDS {
-        assert!(rt; is_refused(rt.alloc(), line)?, "at {line}");
-    }
+    assert_eq!(rt; first_taken(rt.alloc(), &NO_WORDS)?, None);
     Ok(())
 }
 
-const NO_READS: [&str; 24] = [
+static NO_READS: [&str; 24] = [
     "1 read v0",
     "1 read v0 own ",
     "1 read v00 own",
@@ -187,13 +200,11 @@ const NO_READS: [&str; 24] = [
 
 #[test]
 fn refuses_other_reads(rt: HostRuntime) -> Result<(), Fail> {
-    for line in NO_READS {
-        assert!(rt; is_refused(rt.alloc(), line)?, "at {line}");
-    }
+    assert_eq!(rt; first_taken(rt.alloc(), &NO_READS)?, None);
     Ok(())
 }
 
-const NO_WRITES: [&str; 20] = [
+static NO_WRITES: [&str; 20] = [
     "1 delete",
     "1 delete 0",
     "1 delete v0 v1",
@@ -218,13 +229,11 @@ const NO_WRITES: [&str; 20] = [
 
 #[test]
 fn refuses_other_writes(rt: HostRuntime) -> Result<(), Fail> {
-    for line in NO_WRITES {
-        assert!(rt; is_refused(rt.alloc(), line)?, "at {line}");
-    }
+    assert_eq!(rt; first_taken(rt.alloc(), &NO_WRITES)?, None);
     Ok(())
 }
 
-const NO_VALUES: [&str; 30] = [
+static NO_VALUES: [&str; 30] = [
     "1 set v0 k",
     "1 set v0 k ",
     "1 set v0 k  1",
@@ -259,36 +268,39 @@ const NO_VALUES: [&str; 30] = [
 
 #[test]
 fn refuses_other_values(rt: HostRuntime) -> Result<(), Fail> {
-    for line in NO_VALUES {
-        assert!(rt; is_refused(rt.alloc(), line)?, "at {line}");
-    }
+    assert_eq!(rt; first_taken(rt.alloc(), &NO_VALUES)?, None);
     Ok(())
 }
+
+static NO_TEXTS: [&[u8]; 4] = [
+    b"1 set v0 k\xff 1",
+    b"1 set v0 k \"\xff\"",
+    b"1 set v0 k \"\xc3\"",
+    b"1 label v0 \xff",
+];
 
 #[test]
 fn refuses_bytes_that_are_no_text(rt: HostRuntime) -> Result<(), Fail> {
-    for line in [
-        b"1 set v0 k\xff 1".as_slice(),
-        b"1 set v0 k \"\xff\"".as_slice(),
-        b"1 set v0 k \"\xc3\"".as_slice(),
-        b"1 label v0 \xff".as_slice(),
-    ] {
-        assert!(rt; read_request(rt.alloc(), line)?.is_none());
+    for line in &NO_TEXTS {
+        assert!(rt; is_refused(rt.alloc(), line)?);
     }
     Ok(())
 }
 
+/// A line, and whether it is passed over.
+static SKIPPED: [(&str, bool); 7] = [
+    ("", true),
+    ("  \t ", true),
+    ("# 1 begin", true),
+    ("#", true),
+    (" #", false),
+    ("1 begin", false),
+    ("\r", false),
+];
+
 #[test]
 fn skips_lines(rt: HostRuntime) {
-    for (line, wanted) in [
-        ("", true),
-        ("  \t ", true),
-        ("# 1 begin", true),
-        ("#", true),
-        (" #", false),
-        ("1 begin", false),
-        ("\r", false),
-    ] {
-        assert!(rt; is_skipped(line.as_bytes()) == wanted, "at {line}");
+    for (line, wanted) in &SKIPPED {
+        assert!(rt; is_skipped(line.as_bytes()) == *wanted, "at {line}");
     }
 }

@@ -4,6 +4,7 @@ ghost use Rattle.graph_shell.specs.Values.{begins_white, ends_white, is_white, j
 ghost use Rattle.std.specs.Prelude.{option_map};
 
 use crate::NoMemory;
+use crate::request::integer::plain_integer;
 use graph_value::{List, Text, Value};
 use serde_json::Value as Json;
 use std::alloc::{AllocError, Global};
@@ -16,6 +17,9 @@ use std::alloc::{AllocError, Global};
 pub fn json_value(alloc: Global, text: &[u8]) -> Result<Option<Value>, NoMemory>
     ensures { IfOk result (λ v. v ≡ json_value text.now) }
 {
+    if let Some(n) = plain_integer(text) {
+        return Ok(Some(Value::Int(n)));
+    }
     if begins_white(text) || ends_white(text) {
         return Ok(None);
     }

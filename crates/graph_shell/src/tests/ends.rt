@@ -1,5 +1,7 @@
 use super::*;
 use std::fmt::Write;
+use txn_manager::CLOCK_END;
+use world_model::ID_END;
 
 /// Where a store begins: its clock, and the numbers of the next vertex and the next edge.
 type From = (u64, u64, u64);
@@ -7,7 +9,7 @@ type From = (u64, u64, u64);
 /// A run: its name, where its store begins, its lines, and the lines that answer them.
 type Row = (&'static str, From, &'static str, &'static str);
 
-const ROWS: [Row; 6] = [
+static ROWS: [Row; 6] = [
     (
         "the last vertex",
         (1, 4611686018427387903, 0),
@@ -114,51 +116,91 @@ const ROWS: [Row; 6] = [
     ),
 ];
 
+/// Appends the answer to the line.
+fn push_answer(
+    alloc: Global,
+    core: &mut Core,
+    line: &str,
+    all: &mut String,
+) -> Result<(), NoMemory> {
+    let mut reply = String::new(alloc);
+    answer_line(alloc, core, line.as_bytes(), &mut reply)?;
+    all.push_str(reply.as_str())
+}
+
 /// The answers to the lines, one behind the other.
 fn answers(alloc: Global, core: &mut Core, lines: &str) -> Result<String, NoMemory> {
     let mut all = String::new(alloc);
-    let mut reply = String::new(alloc);
     for line in lines.split('\n') {
-        answer_line(alloc, core, line.as_bytes(), &mut reply)?;
-        all.push_str(reply.as_str())?;
+        push_answer(alloc, core, line, &mut all)?;
     }
     Ok(all)
 }
 
+/// Whether the lines are answered so, and no other way.
+fn are_answered(
+    alloc: Global,
+    core: &mut Core,
+    lines: &str,
+    wanted: &str,
+) -> Result<bool, NoMemory> {
+    Ok(answers(alloc, core, lines)?.as_str() == wanted)
+}
+
+/// Whether the row's store may begin there, and its lines are answered so.
+fn is_answered_from(alloc: Global, row: &Row) -> Result<bool, NoMemory> {
+    let (clock, vertices, edges) = row.1;
+    if clock < 1 || clock > CLOCK_END || vertices > ID_END || edges > ID_END {
+        return Ok(false);
+    }
+    let mut core = Core::new_at(alloc, 1, clock, vertices, edges)?;
+    are_answered(alloc, &mut core, row.2, row.3)
+}
+
 #[test]
 fn counters_end(rt: HostRuntime) -> Result<(), Fail> {
-    let alloc = rt.alloc();
-    for (name, (clock, vertices, edges), lines, wanted) in ROWS {
-        let mut core = Core::new_at(alloc, 1, clock, vertices, edges)?;
-        assert!(rt;
-            answers(alloc, &mut core, lines)?.as_str() == wanted,
-            "{name}"
-        );
+    for row in &ROWS {
+        assert!(rt; is_answered_from(rt.alloc(), row)?, "{}", row.0);
     }
     Ok(())
 }
 
-/// The lines with which so many callers begin, and the answer to the last of them.
-fn last_begun(alloc: Global, core: &mut Core, callers: u64) -> Result<String, NoMemory> {
+/// Begins a transaction of the caller.
+fn begin(alloc: Global, core: &mut Core, caller: u64, reply: &mut String) -> Result<(), NoMemory> {
+    let mut line = String::new(alloc);
+    write!(&mut line, "{caller} begin")?;
+    answer_line(alloc, core, line.as_bytes(), reply)
+}
+
+/// Begins transactions of 1024 callers, and says whether the last is answered as it has to be.
+fn all_begin(alloc: Global, core: &mut Core) -> Result<bool, NoMemory> {
     let mut reply = String::new(alloc);
-    for caller in 0..callers {
-        let mut line = String::new(alloc);
-        write!(&mut line, "{caller} begin")?;
-        answer_line(alloc, core, line.as_bytes(), &mut reply)?;
+    for caller in 0..1024 {
+        begin(alloc, core, caller, &mut reply)?;
     }
-    Ok(reply)
+    Ok(reply.as_str() == "1023 begin 1024\n")
+}
+
+/// Whether so many transactions may be open, and another one once one of them has ended.
+fn places_end(alloc: Global, core: &mut Core) -> Result<bool, NoMemory> {
+    Ok(
+        all_begin(alloc, core)?
+            && are_answered(
+                alloc,
+                core,
+                "1024 begin\n3 begin\n3 abort\n1024 begin",
+                "1024 refused 9 too many\n3 refused 2 already open\n3 abort\n1024 begin 1025\n",
+            )?,
+    )
+}
+
+fn places_end_at_once(alloc: Global) -> Result<bool, NoMemory> {
+    let mut core = Core::new(alloc, 1)?;
+    places_end(alloc, &mut core)
 }
 
 #[test]
 fn transactions_are_too_many(rt: HostRuntime) -> Result<(), Fail> {
-    let alloc = rt.alloc();
-    let mut core = Core::new(alloc, 1)?;
-    let last = last_begun(alloc, &mut core, 1024)?;
-    assert_eq!(rt; last.as_str(), "1023 begin 1024\n");
-    let more = answers(alloc, &mut core, "1024 begin\n3 begin\n3 abort\n1024 begin")?;
-    assert_eq!(rt;
-        more.as_str(),
-        "1024 refused 9 too many\n3 refused 2 already open\n3 abort\n1024 begin 1025\n"
-    );
+    assert!(rt; places_end_at_once(rt.alloc())?);
     Ok(())
 }

@@ -3,7 +3,7 @@ use super::*;
 /// A run: its name, its lines, and the lines that answer them.
 type Row = (&'static str, &'static str, &'static str);
 
-const ROWS: [Row; 12] = [
+static ROWS: [Row; 12] = [
     (
         "edges, labels and an abort",
         r#"1 begin
@@ -522,19 +522,27 @@ const ROWS: [Row; 12] = [
     ),
 ];
 
-/// Whether the lines are answered so, and no other way.
-fn is_answered(alloc: Global, input: &str, output: &str) -> Result<bool, NoMemory> {
-    let bytes = input.as_bytes().to_vec(alloc)?;
-    let mut source = MemorySource::new(bytes, 100, Vec::new(alloc));
+/// Whether the source's lines are answered so, and no other way.
+fn is_answered_from(
+    alloc: Global,
+    source: &mut MemorySource,
+    output: &str,
+) -> Result<bool, NoMemory> {
     let mut sink = MemorySink::with_room(alloc, 2000, 100, Vec::new(alloc))?;
-    let status = run_events(alloc, 1, &mut source, &mut sink);
+    let status = run_events(alloc, 1, source, &mut sink);
     Ok(status == 0 && sink.bytes() == output.as_bytes())
+}
+
+fn is_answered(alloc: Global, row: &Row) -> Result<bool, NoMemory> {
+    let bytes = row.1.as_bytes().to_vec(alloc)?;
+    let mut source = MemorySource::new(bytes, 100, Vec::new(alloc));
+    is_answered_from(alloc, &mut source, row.2)
 }
 
 #[test]
 fn runs_are_answered(rt: HostRuntime) -> Result<(), Fail> {
-    for (name, input, output) in ROWS {
-        assert!(rt; is_answered(rt.alloc(), input, output)?, "{name}");
+    for row in &ROWS {
+        assert!(rt; is_answered(rt.alloc(), row)?, "{}", row.0);
     }
     Ok(())
 }

@@ -1,7 +1,7 @@
 //! The rows of edges that are made and deleted together with their ends, and of the objects that a write touches.
 use super::premises::is_possible;
-use super::shape::{LINK, PLAIN, RING, Shape, Undo, object};
-use super::table::{BUSIER, BUSY, DEAD, IN, LOOP, OTHER, OUT, Side, Write, leads_back, op};
+use super::shape::{Shape, Undo, object};
+use super::table::{Side, Write, leads_back, op};
 use crate::{EdgeDeltas, Joined, LoopDeltas, NoMemory, Op, change_edge, change_loop};
 use graph_record::Object;
 use graph_value::{EdgeId, Oid, VertexId};
@@ -17,87 +17,64 @@ type LoopRow = (Write, Side, Side);
 /// A write, the objects that it touches, in order, and the edge that it makes or deletes.
 type TouchRow = (Write, [Option<Oid>; 4], Option<Joined>);
 
-const BUSY_OUT: Shape = Shape::Vertex {
-    labels: b"",
-    props: &[],
-    outs: &[3, 7, 9],
-    ins: &[3],
-};
+const MADE: Side = (Shape::Dead, Shape::Link, Some(Undo::Delete), None);
 
-const BUSY_IN: Shape = Shape::Vertex {
-    labels: b"",
-    props: &[],
-    outs: &[3, 9],
-    ins: &[3, 7],
-};
+const LOST: Side = (Shape::Link, Shape::Dead, Some(Undo::RecreateEdge), None);
 
-const OTHER_OUT: Shape = Shape::Vertex {
-    labels: b"",
-    props: &[],
-    outs: &[3, 7],
-    ins: &[3],
-};
+const MADE_RING: Side = (Shape::Dead, Shape::Ring, Some(Undo::Delete), None);
 
-const OTHER_IN: Shape = Shape::Vertex {
-    labels: b"",
-    props: &[],
-    outs: &[3],
-    ins: &[3, 7],
-};
+const LOST_RING: Side = (Shape::Ring, Shape::Dead, Some(Undo::RecreateRing), None);
 
-const MADE: Side = (DEAD, LINK, Some(Undo::Delete), None);
-
-const LOST: Side = (LINK, DEAD, Some(Undo::RecreateEdge), None);
-
-const MADE_RING: Side = (DEAD, RING, Some(Undo::Delete), None);
-
-const LOST_RING: Side = (RING, DEAD, Some(Undo::RecreateRing), None);
-
-pub const EDGES: [EdgeRow; 6] = [
+pub static EDGES: [EdgeRow; 6] = [
     (
         Write::MakeEdge(1, 2),
-        (PLAIN, OUT, Some(Undo::RemoveOut(7)), None),
-        (PLAIN, IN, Some(Undo::RemoveIn(7)), None),
+        (Shape::Plain, Shape::Out, Some(Undo::RemoveOut(7)), None),
+        (Shape::Plain, Shape::In, Some(Undo::RemoveIn(7)), None),
         MADE,
     ),
     (
         Write::MakeEdge(1, 2),
-        (OTHER, OTHER_OUT, Some(Undo::RemoveOut(7)), None),
-        (BUSY, BUSY_IN, Some(Undo::RemoveIn(7)), None),
+        (
+            Shape::Other,
+            Shape::OtherOut,
+            Some(Undo::RemoveOut(7)),
+            None,
+        ),
+        (Shape::Busy, Shape::BusyIn, Some(Undo::RemoveIn(7)), None),
         MADE,
     ),
     (
         Write::MakeEdge(1, 2),
-        (BUSY, BUSY_OUT, Some(Undo::RemoveOut(7)), None),
-        (OTHER, OTHER_IN, Some(Undo::RemoveIn(7)), None),
+        (Shape::Busy, Shape::BusyOut, Some(Undo::RemoveOut(7)), None),
+        (Shape::Other, Shape::OtherIn, Some(Undo::RemoveIn(7)), None),
         MADE,
     ),
     (
         Write::DeleteEdge(1, 2),
-        (OUT, PLAIN, Some(Undo::AddOut(7)), None),
-        (IN, PLAIN, Some(Undo::AddIn(7)), None),
+        (Shape::Out, Shape::Plain, Some(Undo::AddOut(7)), None),
+        (Shape::In, Shape::Plain, Some(Undo::AddIn(7)), None),
         LOST,
     ),
     (
         Write::DeleteEdge(1, 2),
-        (OTHER_OUT, OTHER, Some(Undo::AddOut(7)), None),
-        (BUSY_IN, BUSY, Some(Undo::AddIn(7)), None),
+        (Shape::OtherOut, Shape::Other, Some(Undo::AddOut(7)), None),
+        (Shape::BusyIn, Shape::Busy, Some(Undo::AddIn(7)), None),
         LOST,
     ),
     (
         Write::DeleteEdge(1, 2),
-        (BUSY_OUT, BUSY, Some(Undo::AddOut(7)), None),
-        (OTHER_IN, OTHER, Some(Undo::AddIn(7)), None),
+        (Shape::BusyOut, Shape::Busy, Some(Undo::AddOut(7)), None),
+        (Shape::OtherIn, Shape::Other, Some(Undo::AddIn(7)), None),
         LOST,
     ),
 ];
 
-pub const LOOPS: [LoopRow; 4] = [
+pub static LOOPS: [LoopRow; 4] = [
     (
         Write::MakeEdge(1, 1),
         (
-            PLAIN,
-            LOOP,
+            Shape::Plain,
+            Shape::Loop,
             Some(Undo::RemoveOut(7)),
             Some(Undo::RemoveIn(7)),
         ),
@@ -106,8 +83,8 @@ pub const LOOPS: [LoopRow; 4] = [
     (
         Write::MakeEdge(1, 1),
         (
-            BUSY,
-            BUSIER,
+            Shape::Busy,
+            Shape::BusyLoop,
             Some(Undo::RemoveOut(7)),
             Some(Undo::RemoveIn(7)),
         ),
@@ -115,12 +92,22 @@ pub const LOOPS: [LoopRow; 4] = [
     ),
     (
         Write::DeleteEdge(1, 1),
-        (LOOP, PLAIN, Some(Undo::AddOut(7)), Some(Undo::AddIn(7))),
+        (
+            Shape::Loop,
+            Shape::Plain,
+            Some(Undo::AddOut(7)),
+            Some(Undo::AddIn(7)),
+        ),
         LOST_RING,
     ),
     (
         Write::DeleteEdge(1, 1),
-        (BUSIER, BUSY, Some(Undo::AddOut(7)), Some(Undo::AddIn(7))),
+        (
+            Shape::BusyLoop,
+            Shape::Busy,
+            Some(Undo::AddOut(7)),
+            Some(Undo::AddIn(7)),
+        ),
         LOST_RING,
     ),
 ];
@@ -192,12 +179,12 @@ pub fn edge_holds(alloc: Global, row: &EdgeRow) -> Result<bool, NoMemory> {
 }
 
 fn from_its_start(alloc: Global, op: &Op, row: &EdgeRow) -> Result<bool, NoMemory> {
-    let mut from = object(alloc, &row.1.0)?;
+    let mut from = object(alloc, row.1.0)?;
     to_its_end(alloc, op, &mut from, row)
 }
 
 fn to_its_end(alloc: Global, op: &Op, from: &mut Object, row: &EdgeRow) -> Result<bool, NoMemory> {
-    let mut to = object(alloc, &row.2.0)?;
+    let mut to = object(alloc, row.2.0)?;
     with_its_record(alloc, op, from, &mut to, row)
 }
 
@@ -208,7 +195,7 @@ fn with_its_record(
     to: &mut Object,
     row: &EdgeRow,
 ) -> Result<bool, NoMemory> {
-    let mut edge = object(alloc, &row.3.0)?;
+    let mut edge = object(alloc, row.3.0)?;
     edge_changed_as(alloc, op, from, to, &mut edge, row)
 }
 
@@ -255,7 +242,7 @@ pub fn loop_holds(alloc: Global, row: &LoopRow) -> Result<bool, NoMemory> {
 }
 
 fn at_its_vertex(alloc: Global, op: &Op, row: &LoopRow) -> Result<bool, NoMemory> {
-    let mut end = object(alloc, &row.1.0)?;
+    let mut end = object(alloc, row.1.0)?;
     round_its_vertex(alloc, op, &mut end, row)
 }
 
@@ -265,7 +252,7 @@ fn round_its_vertex(
     end: &mut Object,
     row: &LoopRow,
 ) -> Result<bool, NoMemory> {
-    let mut edge = object(alloc, &row.2.0)?;
+    let mut edge = object(alloc, row.2.0)?;
     loop_changed_as(alloc, op, end, &mut edge, row)
 }
 

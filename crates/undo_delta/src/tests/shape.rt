@@ -6,21 +6,86 @@ use graph_record::{EdgeIds, EdgeRecord, Kind, Labels, Object, Properties, Vertex
 use graph_value::{EdgeId, Name, Value, VertexId};
 use std::alloc::Global;
 
-#[derive(Clone, Copy)]
+/// An object that is written out. It holds no reference: a table of names is cheap to prove.
+#[derive(Clone, Copy, PartialEq, Eq)]
 pub enum Shape {
     Dead,
-    Vertex {
-        labels: &'static [u8],
-        props: &'static [(u8, i64)],
-        outs: &'static [u64],
-        ins: &'static [u64],
-    },
-    Edge {
-        kind: u8,
-        from: u64,
-        to: u64,
-        props: &'static [(u8, i64)],
-    },
+    /// A vertex without anything.
+    Plain,
+    /// Vertices with these labels.
+    A,
+    B,
+    Ab,
+    /// Vertices with these properties: `a` is 1; `a` is 2; `a` is 1 and `b` is 5; `b` is 5.
+    One,
+    Two,
+    Both,
+    Last,
+    /// Vertices with edge 7 among those that leave, among those that come, and among both.
+    Out,
+    In,
+    Loop,
+    /// A vertex that edge 3 leaves and comes to, and the same with edge 7 besides.
+    Other,
+    OtherOut,
+    OtherIn,
+    OtherLoop,
+    /// A vertex that edges 3 and 9 leave, and edge 3 comes to, and the same with edge 7 besides.
+    Busy,
+    BusyOut,
+    BusyIn,
+    BusyLoop,
+    /// Edges of the kind `a`: from 1 to 2; from 1 to 1; from 1 to 2, and `a` is 1.
+    Link,
+    Ring,
+    Weighed,
+}
+
+fn labels_of(shape: Shape) -> &'static [u8] {
+    match shape {
+        Shape::A => b"a",
+        Shape::B => b"b",
+        Shape::Ab => b"ab",
+        _ => b"",
+    }
+}
+
+fn properties_of(shape: Shape) -> &'static [(u8, i64)] {
+    match shape {
+        Shape::One | Shape::Weighed => &[(b'a', 1)],
+        Shape::Two => &[(b'a', 2)],
+        Shape::Both => &[(b'a', 1), (b'b', 5)],
+        Shape::Last => &[(b'b', 5)],
+        _ => &[],
+    }
+}
+
+fn outs_of(shape: Shape) -> &'static [u64] {
+    match shape {
+        Shape::Out | Shape::Loop => &[7],
+        Shape::Other | Shape::OtherIn => &[3],
+        Shape::OtherOut | Shape::OtherLoop => &[3, 7],
+        Shape::Busy | Shape::BusyIn => &[3, 9],
+        Shape::BusyOut | Shape::BusyLoop => &[3, 7, 9],
+        _ => &[],
+    }
+}
+
+fn ins_of(shape: Shape) -> &'static [u64] {
+    match shape {
+        Shape::In | Shape::Loop => &[7],
+        Shape::Other | Shape::OtherOut | Shape::Busy | Shape::BusyOut => &[3],
+        Shape::OtherIn | Shape::OtherLoop | Shape::BusyIn | Shape::BusyLoop => &[3, 7],
+        _ => &[],
+    }
+}
+
+/// The vertices that an edge joins.
+fn ends_of(shape: Shape) -> (u64, u64) {
+    match shape {
+        Shape::Ring => (1, 1),
+        _ => (1, 2),
+    }
 }
 
 #[derive(Clone, Copy)]
@@ -40,27 +105,6 @@ pub enum Undo {
     RemoveOut(u64),
 }
 
-pub const PLAIN: Shape = Shape::Vertex {
-    labels: b"",
-    props: &[],
-    outs: &[],
-    ins: &[],
-};
-
-pub const LINK: Shape = Shape::Edge {
-    kind: b'a',
-    from: 1,
-    to: 2,
-    props: &[],
-};
-
-pub const RING: Shape = Shape::Edge {
-    kind: b'a',
-    from: 1,
-    to: 1,
-    props: &[],
-};
-
 pub fn letter(alloc: Global, byte: u8) -> Result<Name, NoMemory> {
     Name::from_str(alloc, text(byte))
 }
@@ -75,75 +119,64 @@ fn text(byte: u8) -> &'static str
     }
 }
 
-fn labels(alloc: Global, letters: &[u8]) -> Result<Labels, NoMemory> {
-    let mut labels = Labels::new(alloc);
+fn put_labels(alloc: Global, labels: &mut Labels, letters: &[u8]) -> Result<(), NoMemory> {
     for byte in letters {
         labels.add(letter(alloc, *byte)?)?;
     }
-    Ok(labels)
+    Ok(())
 }
 
-fn properties(alloc: Global, pairs: &[(u8, i64)]) -> Result<Properties, NoMemory> {
-    let mut props = Properties::new(alloc);
+fn put_properties(
+    alloc: Global,
+    props: &mut Properties,
+    pairs: &[(u8, i64)],
+) -> Result<(), NoMemory> {
     for (byte, n) in pairs {
-        props.set(letter(alloc, *byte)?, Value::Int(*n))?;
+        props.set(&letter(alloc, *byte)?, Value::Int(*n))?;
     }
-    Ok(props)
+    Ok(())
 }
 
-fn edges(alloc: Global, numbers: &[u64]) -> Result<EdgeIds, NoMemory> {
-    let mut ids = EdgeIds::new(alloc);
+fn put_edges(ids: &mut EdgeIds, numbers: &[u64]) -> Result<(), NoMemory> {
     for n in numbers {
         ids.add(EdgeId(*n))?;
     }
-    Ok(ids)
+    Ok(())
 }
 
-pub fn object(alloc: Global, shape: &Shape) -> Result<Object, NoMemory> {
+pub fn object(alloc: Global, shape: Shape) -> Result<Object, NoMemory> {
     match shape {
         Shape::Dead => Ok(Object::Dead),
-        Shape::Vertex {
-            labels,
-            props,
-            outs,
-            ins,
-        } => Ok(Object::Vertex(vertex(alloc, labels, props, outs, ins)?)),
-        Shape::Edge {
-            kind,
-            from,
-            to,
-            props,
-        } => Ok(Object::Edge(edge(alloc, *kind, *from, *to, props)?)),
+        Shape::Link | Shape::Ring | Shape::Weighed => Ok(Object::Edge(edge(alloc, shape)?)),
+        _ => Ok(Object::Vertex(vertex(alloc, shape)?)),
     }
 }
 
-fn vertex(
-    alloc: Global,
-    letters: &[u8],
-    pairs: &[(u8, i64)],
-    outs: &[u64],
-    ins: &[u64],
-) -> Result<VertexRecord, NoMemory> {
-    Ok(VertexRecord {
-        labels: labels(alloc, letters)?,
-        props: properties(alloc, pairs)?,
-        outs: edges(alloc, outs)?,
-        ins: edges(alloc, ins)?,
-    })
+fn vertex(alloc: Global, shape: Shape) -> Result<VertexRecord, NoMemory> {
+    let mut vertex = VertexRecord::empty(alloc);
+    fill_vertex(alloc, &mut vertex, shape)?;
+    Ok(vertex)
 }
 
-fn edge(
-    alloc: Global,
-    kind: u8,
-    from: u64,
-    to: u64,
-    pairs: &[(u8, i64)],
-) -> Result<EdgeRecord, NoMemory> {
+fn fill_vertex(alloc: Global, vertex: &mut VertexRecord, shape: Shape) -> Result<(), NoMemory> {
+    put_labels(alloc, &mut vertex.labels, labels_of(shape))?;
+    put_properties(alloc, &mut vertex.props, properties_of(shape))?;
+    put_edges(&mut vertex.outs, outs_of(shape))?;
+    put_edges(&mut vertex.ins, ins_of(shape))
+}
+
+fn edge(alloc: Global, shape: Shape) -> Result<EdgeRecord, NoMemory> {
+    let mut edge = bare_edge(alloc, ends_of(shape))?;
+    put_properties(alloc, &mut edge.props, properties_of(shape))?;
+    Ok(edge)
+}
+
+fn bare_edge(alloc: Global, ends: (u64, u64)) -> Result<EdgeRecord, NoMemory> {
     Ok(EdgeRecord {
-        kind: Kind::new(alloc, letter(alloc, kind)?)?,
-        from: VertexId(from),
-        to: VertexId(to),
-        props: properties(alloc, pairs)?,
+        kind: Kind::new(alloc, letter(alloc, b'a')?)?,
+        from: VertexId(ends.0),
+        to: VertexId(ends.1),
+        props: Properties::new(alloc),
     })
 }
 
@@ -167,39 +200,27 @@ fn are_edges(ids: &EdgeIds, numbers: &[u64]) -> bool {
 }
 
 /// Whether the object is the one that is written out.
-pub fn is_shape(object: &Object, shape: &Shape) -> bool {
+pub fn is_shape(object: &Object, shape: Shape) -> bool {
     match (object, shape) {
-        (Object::Dead, Shape::Dead) => true,
-        (
-            Object::Vertex(vertex),
-            Shape::Vertex {
-                labels,
-                props,
-                outs,
-                ins,
-            },
-        ) => {
-            are_labels(&vertex.labels, labels)
-                && are_properties(&vertex.props, props)
-                && are_edges(&vertex.outs, outs)
-                && are_edges(&vertex.ins, ins)
-        }
-        (
-            Object::Edge(edge),
-            Shape::Edge {
-                kind,
-                from,
-                to,
-                props,
-            },
-        ) => {
-            edge.kind.as_str() == text(*kind)
-                && edge.from.0 == *from
-                && edge.to.0 == *to
-                && are_properties(&edge.props, props)
-        }
-        _ => false,
+        (Object::Dead, _) => shape == Shape::Dead,
+        (_, Shape::Dead) => false,
+        (Object::Edge(edge), Shape::Link | Shape::Ring | Shape::Weighed) => is_edge(edge, shape),
+        (Object::Edge(_), _) | (_, Shape::Link | Shape::Ring | Shape::Weighed) => false,
+        (Object::Vertex(vertex), _) => is_vertex(vertex, shape),
     }
+}
+
+fn is_vertex(vertex: &VertexRecord, shape: Shape) -> bool {
+    are_labels(&vertex.labels, labels_of(shape))
+        && are_properties(&vertex.props, properties_of(shape))
+        && are_edges(&vertex.outs, outs_of(shape))
+        && are_edges(&vertex.ins, ins_of(shape))
+}
+
+fn is_edge(edge: &EdgeRecord, shape: Shape) -> bool {
+    edge.kind.as_str() == "a"
+        && (edge.from.0, edge.to.0) == ends_of(shape)
+        && are_properties(&edge.props, properties_of(shape))
 }
 
 /// Whether the delta is the one that is written out.
@@ -212,25 +233,39 @@ pub fn is_undo(delta: Option<&Delta>, undo: Option<Undo>) -> bool {
 }
 
 fn is_one_undo(delta: &Delta, undo: Undo) -> bool {
-    match (delta, undo) {
-        (Delta::DeleteObject, Undo::Delete) => true,
-        (Delta::RecreateObject(former), Undo::RecreateVertex) => {
-            is_shape(former.as_object(), &PLAIN)
+    match delta {
+        Delta::DeleteObject => matches!(undo, Undo::Delete),
+        Delta::RecreateObject(former) => is_former(former.as_object(), undo),
+        Delta::AddLabel(name) =>
+            matches!(undo, Undo::AddLabel(byte) if name.as_str() == text(byte)),
+        Delta::RemoveLabel(name) => {
+            matches!(undo, Undo::RemoveLabel(byte) if name.as_str() == text(byte))
         }
-        (Delta::RecreateObject(former), Undo::RecreateEdge) => is_shape(former.as_object(), &LINK),
-        (Delta::RecreateObject(former), Undo::RecreateRing) => is_shape(former.as_object(), &RING),
-        (Delta::AddLabel(name), Undo::AddLabel(byte)) => name.as_str() == text(byte),
-        (Delta::RemoveLabel(name), Undo::RemoveLabel(byte)) => name.as_str() == text(byte),
-        (Delta::SetProperty(setting), Undo::Set(byte, n)) => {
+        Delta::SetProperty(setting) => is_setting(setting, undo),
+        Delta::AddInEdge(id) => matches!(undo, Undo::AddIn(n) if id.0 == n),
+        Delta::AddOutEdge(id) => matches!(undo, Undo::AddOut(n) if id.0 == n),
+        Delta::RemoveInEdge(id) => matches!(undo, Undo::RemoveIn(n) if id.0 == n),
+        Delta::RemoveOutEdge(id) => matches!(undo, Undo::RemoveOut(n) if id.0 == n),
+    }
+}
+
+fn is_former(former: &Object, undo: Undo) -> bool {
+    match undo {
+        Undo::RecreateVertex => is_shape(former, Shape::Plain),
+        Undo::RecreateEdge => is_shape(former, Shape::Link),
+        Undo::RecreateRing => is_shape(former, Shape::Ring),
+        _ => false,
+    }
+}
+
+fn is_setting(setting: &Setting, undo: Undo) -> bool {
+    match undo {
+        Undo::Set(byte, n) => {
             setting.name().as_str() == text(byte) && is_number(Some(setting.value()), n)
         }
-        (Delta::SetProperty(setting), Undo::Unset(byte)) => {
+        Undo::Unset(byte) => {
             setting.name().as_str() == text(byte) && matches!(setting.value(), Value::Null)
         }
-        (Delta::AddInEdge(id), Undo::AddIn(n)) => id.0 == n,
-        (Delta::AddOutEdge(id), Undo::AddOut(n)) => id.0 == n,
-        (Delta::RemoveInEdge(id), Undo::RemoveIn(n)) => id.0 == n,
-        (Delta::RemoveOutEdge(id), Undo::RemoveOut(n)) => id.0 == n,
         _ => false,
     }
 }
@@ -238,13 +273,13 @@ fn is_one_undo(delta: &Delta, undo: Undo) -> bool {
 pub fn delta(alloc: Global, undo: Undo) -> Result<Delta, NoMemory> {
     match undo {
         Undo::Delete => Ok(Delta::DeleteObject),
-        Undo::RecreateVertex => recreate(alloc, &PLAIN),
-        Undo::RecreateEdge => recreate(alloc, &LINK),
-        Undo::RecreateRing => recreate(alloc, &RING),
+        Undo::RecreateVertex => recreate(alloc, Shape::Plain),
+        Undo::RecreateEdge => recreate(alloc, Shape::Link),
+        Undo::RecreateRing => recreate(alloc, Shape::Ring),
         Undo::AddLabel(byte) => Ok(Delta::AddLabel(letter(alloc, byte)?)),
         Undo::RemoveLabel(byte) => Ok(Delta::RemoveLabel(letter(alloc, byte)?)),
-        Undo::Set(byte, n) => set(alloc, byte, Value::Int(n)),
-        Undo::Unset(byte) => set(alloc, byte, Value::Null),
+        Undo::Set(byte, n) => set(alloc, byte, n),
+        Undo::Unset(byte) => unset(alloc, byte),
         Undo::AddIn(n) => Ok(Delta::AddInEdge(EdgeId(n))),
         Undo::AddOut(n) => Ok(Delta::AddOutEdge(EdgeId(n))),
         Undo::RemoveIn(n) => Ok(Delta::RemoveInEdge(EdgeId(n))),
@@ -252,13 +287,21 @@ pub fn delta(alloc: Global, undo: Undo) -> Result<Delta, NoMemory> {
     }
 }
 
-fn recreate(alloc: Global, shape: &Shape) -> Result<Delta, NoMemory> {
+fn recreate(alloc: Global, shape: Shape) -> Result<Delta, NoMemory> {
     let mut former = object(alloc, shape)?;
-    Ok(Delta::RecreateObject(Former::take(alloc, &mut former)?))
+    take(alloc, &mut former)
 }
 
-fn set(alloc: Global, byte: u8, value: Value) -> Result<Delta, NoMemory> {
+fn take(alloc: Global, former: &mut Object) -> Result<Delta, NoMemory> {
+    Ok(Delta::RecreateObject(Former::take(alloc, former)?))
+}
+
+fn set(alloc: Global, byte: u8, n: i64) -> Result<Delta, NoMemory> {
     let mut setting = Setting::room(alloc, letter(alloc, byte)?)?;
-    setting.fill(value);
+    setting.fill(Value::Int(n));
     Ok(Delta::SetProperty(setting))
+}
+
+fn unset(alloc: Global, byte: u8) -> Result<Delta, NoMemory> {
+    Ok(Delta::SetProperty(Setting::room(alloc, letter(alloc, byte)?)?))
 }

@@ -1,6 +1,6 @@
 //! The rows: what each write and each delta is done to, and what has to come of it.
 use super::premises::{is_possible, is_touched};
-use super::shape::{LINK, PLAIN, Shape, Undo, delta, is_shape, is_undo, letter, object};
+use super::shape::{Shape, Undo, delta, is_shape, is_undo, letter, object};
 use crate::{Delta, DeltaPair, GraphUndo, NoMemory, Op, change};
 use graph_record::Object;
 use graph_value::{EdgeId, Oid, Value, VertexId};
@@ -33,300 +33,228 @@ pub type Side = (Shape, Shape, Option<Undo>, Option<Undo>);
 /// The object before, the delta, and the object after.
 type DeltaRow = (Shape, Undo, Shape);
 
-const A: Shape = Shape::Vertex {
-    labels: b"a",
-    props: &[],
-    outs: &[],
-    ins: &[],
-};
-
-const B: Shape = Shape::Vertex {
-    labels: b"b",
-    props: &[],
-    outs: &[],
-    ins: &[],
-};
-
-const AB: Shape = Shape::Vertex {
-    labels: b"ab",
-    props: &[],
-    outs: &[],
-    ins: &[],
-};
-
-const ONE: Shape = Shape::Vertex {
-    labels: b"",
-    props: &[(b'a', 1)],
-    outs: &[],
-    ins: &[],
-};
-
-const TWO: Shape = Shape::Vertex {
-    labels: b"",
-    props: &[(b'a', 2)],
-    outs: &[],
-    ins: &[],
-};
-
-const BOTH: Shape = Shape::Vertex {
-    labels: b"",
-    props: &[(b'a', 1), (b'b', 5)],
-    outs: &[],
-    ins: &[],
-};
-
-const LAST: Shape = Shape::Vertex {
-    labels: b"",
-    props: &[(b'b', 5)],
-    outs: &[],
-    ins: &[],
-};
-
-pub const OUT: Shape = Shape::Vertex {
-    labels: b"",
-    props: &[],
-    outs: &[7],
-    ins: &[],
-};
-
-pub const IN: Shape = Shape::Vertex {
-    labels: b"",
-    props: &[],
-    outs: &[],
-    ins: &[7],
-};
-
-pub const LOOP: Shape = Shape::Vertex {
-    labels: b"",
-    props: &[],
-    outs: &[7],
-    ins: &[7],
-};
-
-pub const BUSY: Shape = Shape::Vertex {
-    labels: b"",
-    props: &[],
-    outs: &[3, 9],
-    ins: &[3],
-};
-
-pub const BUSIER: Shape = Shape::Vertex {
-    labels: b"",
-    props: &[],
-    outs: &[3, 7, 9],
-    ins: &[3, 7],
-};
-
-pub const OTHER: Shape = Shape::Vertex {
-    labels: b"",
-    props: &[],
-    outs: &[3],
-    ins: &[3],
-};
-
-const LOOPS: Shape = Shape::Vertex {
-    labels: b"",
-    props: &[],
-    outs: &[3, 7],
-    ins: &[3, 7],
-};
-
-const WEIGHED: Shape = Shape::Edge {
-    kind: b'a',
-    from: 1,
-    to: 2,
-    props: &[(b'a', 1)],
-};
-
-pub const DEAD: Shape = Shape::Dead;
-
-pub const WRITES: [WriteRow; 24] = [
+pub static WRITES: [WriteRow; 24] = [
     (
         false,
-        DEAD,
+        Shape::Dead,
         Write::MakeVertex,
-        PLAIN,
+        Shape::Plain,
         Some(Undo::Delete),
         None,
     ),
     (
         false,
-        PLAIN,
+        Shape::Plain,
         Write::DeleteVertex,
-        DEAD,
+        Shape::Dead,
         Some(Undo::RecreateVertex),
         None,
     ),
     (
         false,
-        B,
+        Shape::B,
         Write::AddLabel(b'a'),
-        AB,
+        Shape::Ab,
         Some(Undo::RemoveLabel(b'a')),
         None,
     ),
-    (false, AB, Write::AddLabel(b'b'), AB, None, None),
     (
         false,
-        AB,
+        Shape::Ab,
+        Write::AddLabel(b'b'),
+        Shape::Ab,
+        None,
+        None,
+    ),
+    (
+        false,
+        Shape::Ab,
         Write::RemoveLabel(b'b'),
-        A,
+        Shape::A,
         Some(Undo::AddLabel(b'b')),
         None,
     ),
-    (false, A, Write::RemoveLabel(b'c'), A, None, None),
     (
         false,
-        PLAIN,
+        Shape::A,
+        Write::RemoveLabel(b'c'),
+        Shape::A,
+        None,
+        None,
+    ),
+    (
+        false,
+        Shape::Plain,
         Write::Set(b'a', 1),
-        ONE,
+        Shape::One,
         Some(Undo::Unset(b'a')),
         None,
     ),
     (
         false,
-        ONE,
+        Shape::One,
         Write::Set(b'a', 2),
-        TWO,
+        Shape::Two,
         Some(Undo::Set(b'a', 1)),
         None,
     ),
-    (false, ONE, Write::Set(b'a', 1), ONE, None, None),
     (
         false,
-        BOTH,
+        Shape::One,
+        Write::Set(b'a', 1),
+        Shape::One,
+        None,
+        None,
+    ),
+    (
+        false,
+        Shape::Both,
         Write::Unset(b'a'),
-        LAST,
+        Shape::Last,
         Some(Undo::Set(b'a', 1)),
         None,
     ),
-    (false, ONE, Write::Unset(b'b'), ONE, None, None),
     (
         false,
-        PLAIN,
+        Shape::One,
+        Write::Unset(b'b'),
+        Shape::One,
+        None,
+        None,
+    ),
+    (
+        false,
+        Shape::Plain,
         Write::MakeEdge(1, 2),
-        OUT,
+        Shape::Out,
         Some(Undo::RemoveOut(7)),
         None,
     ),
     (
         false,
-        PLAIN,
+        Shape::Plain,
         Write::MakeEdge(2, 1),
-        IN,
+        Shape::In,
         Some(Undo::RemoveIn(7)),
         None,
     ),
     (
         false,
-        PLAIN,
+        Shape::Plain,
         Write::MakeEdge(1, 1),
-        LOOP,
+        Shape::Loop,
         Some(Undo::RemoveOut(7)),
         Some(Undo::RemoveIn(7)),
     ),
     (
         false,
-        OTHER,
+        Shape::Other,
         Write::MakeEdge(1, 1),
-        LOOPS,
+        Shape::OtherLoop,
         Some(Undo::RemoveOut(7)),
         Some(Undo::RemoveIn(7)),
     ),
     (
         false,
-        BUSY,
+        Shape::Busy,
         Write::MakeEdge(1, 1),
-        BUSIER,
+        Shape::BusyLoop,
         Some(Undo::RemoveOut(7)),
         Some(Undo::RemoveIn(7)),
     ),
     (
         false,
-        OUT,
+        Shape::Out,
         Write::DeleteEdge(1, 2),
-        PLAIN,
+        Shape::Plain,
         Some(Undo::AddOut(7)),
         None,
     ),
     (
         false,
-        IN,
+        Shape::In,
         Write::DeleteEdge(2, 1),
-        PLAIN,
+        Shape::Plain,
         Some(Undo::AddIn(7)),
         None,
     ),
     (
         false,
-        BUSIER,
+        Shape::BusyLoop,
         Write::DeleteEdge(1, 1),
-        BUSY,
+        Shape::Busy,
         Some(Undo::AddOut(7)),
         Some(Undo::AddIn(7)),
     ),
     (
         true,
-        DEAD,
+        Shape::Dead,
         Write::MakeEdge(1, 2),
-        LINK,
+        Shape::Link,
         Some(Undo::Delete),
         None,
     ),
     (
         true,
-        LINK,
+        Shape::Link,
         Write::DeleteEdge(1, 2),
-        DEAD,
+        Shape::Dead,
         Some(Undo::RecreateEdge),
         None,
     ),
     (
         true,
-        LINK,
+        Shape::Link,
         Write::SetEdge(b'a', 1),
-        WEIGHED,
+        Shape::Weighed,
         Some(Undo::Unset(b'a')),
         None,
     ),
-    (true, WEIGHED, Write::SetEdge(b'a', 1), WEIGHED, None, None),
     (
         true,
-        WEIGHED,
+        Shape::Weighed,
+        Write::SetEdge(b'a', 1),
+        Shape::Weighed,
+        None,
+        None,
+    ),
+    (
+        true,
+        Shape::Weighed,
         Write::UnsetEdge(b'a'),
-        LINK,
+        Shape::Link,
         Some(Undo::Set(b'a', 1)),
         None,
     ),
 ];
 
-pub const DELTAS: [DeltaRow; 26] = [
-    (PLAIN, Undo::Delete, DEAD),
-    (DEAD, Undo::RecreateVertex, PLAIN),
-    (DEAD, Undo::RecreateEdge, LINK),
-    (B, Undo::AddLabel(b'a'), AB),
-    (AB, Undo::AddLabel(b'a'), AB),
-    (LINK, Undo::AddLabel(b'a'), LINK),
-    (AB, Undo::RemoveLabel(b'a'), B),
-    (B, Undo::RemoveLabel(b'a'), B),
-    (DEAD, Undo::RemoveLabel(b'a'), DEAD),
-    (TWO, Undo::Set(b'a', 1), ONE),
-    (LINK, Undo::Set(b'a', 1), WEIGHED),
-    (WEIGHED, Undo::Unset(b'a'), LINK),
-    (PLAIN, Undo::Unset(b'a'), PLAIN),
-    (DEAD, Undo::Set(b'a', 1), DEAD),
-    (PLAIN, Undo::AddIn(7), IN),
-    (IN, Undo::AddIn(7), IN),
-    (LINK, Undo::AddIn(7), LINK),
-    (IN, Undo::AddOut(7), LOOP),
-    (OUT, Undo::AddOut(7), OUT),
-    (DEAD, Undo::AddOut(7), DEAD),
-    (LOOP, Undo::RemoveIn(7), OUT),
-    (OUT, Undo::RemoveIn(7), OUT),
-    (LINK, Undo::RemoveIn(7), LINK),
-    (LOOP, Undo::RemoveOut(7), IN),
-    (IN, Undo::RemoveOut(7), IN),
-    (DEAD, Undo::RemoveOut(7), DEAD),
+pub static DELTAS: [DeltaRow; 26] = [
+    (Shape::Plain, Undo::Delete, Shape::Dead),
+    (Shape::Dead, Undo::RecreateVertex, Shape::Plain),
+    (Shape::Dead, Undo::RecreateEdge, Shape::Link),
+    (Shape::B, Undo::AddLabel(b'a'), Shape::Ab),
+    (Shape::Ab, Undo::AddLabel(b'a'), Shape::Ab),
+    (Shape::Link, Undo::AddLabel(b'a'), Shape::Link),
+    (Shape::Ab, Undo::RemoveLabel(b'a'), Shape::B),
+    (Shape::B, Undo::RemoveLabel(b'a'), Shape::B),
+    (Shape::Dead, Undo::RemoveLabel(b'a'), Shape::Dead),
+    (Shape::Two, Undo::Set(b'a', 1), Shape::One),
+    (Shape::Link, Undo::Set(b'a', 1), Shape::Weighed),
+    (Shape::Weighed, Undo::Unset(b'a'), Shape::Link),
+    (Shape::Plain, Undo::Unset(b'a'), Shape::Plain),
+    (Shape::Dead, Undo::Set(b'a', 1), Shape::Dead),
+    (Shape::Plain, Undo::AddIn(7), Shape::In),
+    (Shape::In, Undo::AddIn(7), Shape::In),
+    (Shape::Link, Undo::AddIn(7), Shape::Link),
+    (Shape::In, Undo::AddOut(7), Shape::Loop),
+    (Shape::Out, Undo::AddOut(7), Shape::Out),
+    (Shape::Dead, Undo::AddOut(7), Shape::Dead),
+    (Shape::Loop, Undo::RemoveIn(7), Shape::Out),
+    (Shape::Out, Undo::RemoveIn(7), Shape::Out),
+    (Shape::Link, Undo::RemoveIn(7), Shape::Link),
+    (Shape::Loop, Undo::RemoveOut(7), Shape::In),
+    (Shape::In, Undo::RemoveOut(7), Shape::In),
+    (Shape::Dead, Undo::RemoveOut(7), Shape::Dead),
 ];
 
 pub fn op(alloc: Global, write: Write) -> Result<Op, NoMemory> {
@@ -368,7 +296,7 @@ fn make_edge(alloc: Global, from: u64, to: u64) -> Result<Op, NoMemory> {
 
 /// Whether the row's write leaves this object and these deltas, and the deltas lead back.
 pub fn write_holds(alloc: Global, row: &WriteRow) -> Result<bool, NoMemory> {
-    let mut work = object(alloc, &row.1)?;
+    let mut work = object(alloc, row.1)?;
     written_as(alloc, &mut work, row)
 }
 
@@ -397,12 +325,12 @@ pub fn leads_back(
     pair: &DeltaPair,
     side: &Side,
 ) -> Result<bool, NoMemory> {
-    let is_done = is_shape(work, &side.1)
+    let is_done = is_shape(work, side.1)
         && is_undo(pair.first.as_ref(), side.2)
         && is_undo(pair.second.as_ref(), side.3);
     undo(alloc, work, pair.second.as_ref())?;
     undo(alloc, work, pair.first.as_ref())?;
-    Ok(is_done && is_shape(work, &side.0))
+    Ok(is_done && is_shape(work, side.0))
 }
 
 fn undo(alloc: Global, work: &mut Object, delta: Option<&Delta>) -> Result<(), NoMemory> {
@@ -414,14 +342,14 @@ fn undo(alloc: Global, work: &mut Object, delta: Option<&Delta>) -> Result<(), N
 
 /// Whether the row's delta leaves this object, as a copy of it does.
 pub fn delta_holds(alloc: Global, row: &DeltaRow) -> Result<bool, NoMemory> {
-    let mut work = object(alloc, &row.0)?;
+    let mut work = object(alloc, row.0)?;
     undone_as(alloc, &mut work, row)
 }
 
 fn undone_as(alloc: Global, work: &mut Object, row: &DeltaRow) -> Result<bool, NoMemory> {
     let made = delta(alloc, row.1)?;
     undo_copy(alloc, work, &made)?;
-    Ok(is_shape(work, &row.2))
+    Ok(is_shape(work, row.2))
 }
 
 fn undo_copy(alloc: Global, work: &mut Object, made: &Delta) -> Result<(), NoMemory> {

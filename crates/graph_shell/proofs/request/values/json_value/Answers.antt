@@ -5,9 +5,9 @@ use Rattle.serde_json.specs.View.{view}
 use Rattle.graph_shell.proofs.JsonTexts.{json_read, json_other}
 use Rattle.graph_shell.proofs.request.values.json_value.Goals as goal
 
-pub returns-in_default : goal.returns-in_default
-returns-in_default c =
-    sym (json_other c.args.text.now (sym c.begins_white.ensures ∙ c.if-begins_white.false) (sym c.ends_white.ensures ∙ c.if-ends_white.false) c.in_default.ensures.cases.0)
+pub returns-in_default-from_utf8 : goal.returns-in_default-from_utf8
+returns-in_default-from_utf8 c =
+    sym (json_other c.args.text.now (sym c.begins_white.ensures ∙ c.if-begins_white.false) (sym c.ends_white.ensures ∙ c.if-ends_white.false) c.in_default-from_utf8.ensures.cases.0)
 
 pub returns-in-Ok-from_str : goal.returns-in-Ok-from_str
 returns-in-Ok-from_str c =
