@@ -1,5 +1,5 @@
 #!/usr/bin/env bash
-# Prints what reading and checking a statement costs:
+# Prints what reading and checking a statement costs, and printing the tree of one that passes:
 #
 #   short     statements of the load: how many a second
 #   long      texts of about 65,000 bytes: how many a second, and what a byte costs by what a byte of the short ones
@@ -28,10 +28,12 @@ copies() {
     awk -v text="$1" -v count="$2" 'BEGIN { for (i = 0; i < count; i++) printf "%s", text }'
 }
 
-# Answers the input once, and stops where not each of its lines has this answer.
+# Answers the input once, and stops where not each of its lines has this answer. `ok` is any answer with a tree.
 check() {
+    local found
     "$program" parse <"$room/in" >"$room/out"
-    if [ "$(sort -u "$room/out")" != "$1" ] || [ "$(wc -l <"$room/out")" -ne "$(wc -l <"$room/in")" ]; then
+    found="$(sed 's/^ok .*/ok/' "$room/out" | sort -u)"
+    if [ "$found" != "$1" ] || [ "$(wc -l <"$room/out")" -ne "$(wc -l <"$room/in")" ]; then
         echo "not each statement was answered '$1'" >&2
         exit 1
     fi

@@ -12,6 +12,7 @@ use Rattle.cypher_check.specs.declared.refused.CheckRefused.TheVariants as check
 use Rattle.cypher_check.specs.declared.checked.Checked.{Checked}
 use Rattle.cypher_check.specs.Answer.{IsRefusal, query_of}
 use Rattle.cypher_check.specs.Verdict.{verdict}
+use Rattle.cypher_print.specs.QueryText.{query_text}
 use Rattle.query_bench.specs.declared.fault.Fault.{Fault}
 use Rattle.query_bench.specs.declared.fault.Fault.TheVariants as fault
 
@@ -34,7 +35,7 @@ fault_text (fault.Parse why) = parse_text why
 fault_text (fault.Check why) = check_text why
 
 abbrev pub answer_text : Result Checked Fault → List ℕ
-answer_text (Ok checked) = codes "ok"
+answer_text (Ok checked) = codes "ok " ++ query_text (query_of checked)
 answer_text (Err why) = fault_text why
 
 -- the statement's tree, against which no rule speaks, or its first fault, unless memory was wanting

@@ -7,7 +7,7 @@ use graph_value::{NoMemory, Text};
 use std::alloc::Global;
 use std::str;
 
-/// Makes the text the answer to a line, without line ends: `ok`, or the statement's first fault.
+/// Makes the text the answer to a line, without its line end: `ok`, a space and the printed tree, or the first fault.
 ///
 /// The error says that memory was wanting for the statement or its answer.
 pub fn answer_line(alloc: Global, line: &[u8], reply: &mut String) -> Result<(), NoMemory>

@@ -1,5 +1,5 @@
-//! `query_bench parse` reads statements from standard input, one a line, and writes for each whether it is a query that
-//! passes the checks, or its first fault.
+//! `query_bench parse` reads statements from standard input, one a line, and writes a line for each: `ok`, a space and the
+//! printed form of the query, where it passes the checks, or else its first fault.
 #![tactic(auto)]
 
 mod answer;

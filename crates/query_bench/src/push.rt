@@ -1,30 +1,44 @@
 //! The texts of answers.
 
-ghost use Rattle.std.specs.Prelude.{◌≡◌, ◌++◌, OnOk, string_bytes};
+ghost use Rattle.std.specs.Prelude.{◌≡◌, ◌++◌, OnOk, codes, string_bytes};
+ghost use Rattle.cypher_print.specs.QueryText.{query_text};
 ghost use Rattle.json.specs.Print.{quoted};
 ghost use Rattle.query_bench.specs.Reply.{answer_text, check_text, fault_text, parse_text};
 
 use crate::fault::Fault;
 use cypher_check::{CheckRefused, Checked};
 use cypher_parse::ParseRefused;
+use cypher_print::print_query;
+use cypher_syntax::Query;
 use graph_value::{Name, NoMemory};
 use json::Writer;
 use std::alloc::Global;
 use std::fmt::Write;
 use std::mem;
 
-/// Appends `ok`, or the text of a fault.
+/// Appends `ok`, a space and the printed tree, or the text of a fault.
 pub fn push_answer(
     alloc: Global,
     out: &mut String,
     answer: &Result<Checked, Fault>,
 ) -> Result<(), NoMemory>
-    ensures ok { OnOk result (string_bytes out.new ≡ string_bytes out.old ++ answer_text answer.now) }
+    ensures ok { OnOk result (string_bytes out.new
+        ≡ string_bytes out.old ++ answer_text answer.now) }
 {
     match answer {
-        Ok(_) => out.push_str("ok"),
+        Ok(checked) => push_tree(alloc, out, checked.query()),
         Err(why) => push_fault(alloc, out, why),
     }
+}
+
+/// Appends `ok`, a space and the printed form of a query.
+fn push_tree(alloc: Global, out: &mut String, query: &Query) -> Result<(), NoMemory>
+    ensures ok { OnOk result (string_bytes out.new
+        ≡ string_bytes out.old ++ (codes "ok " ++ query_text query.now)) }
+{
+    out.push_str("ok ")?;
+    let tree = print_query(alloc, query)?;
+    out.push_str(tree.as_str())
 }
 
 fn push_fault(alloc: Global, out: &mut String, why: &Fault) -> Result<(), NoMemory>

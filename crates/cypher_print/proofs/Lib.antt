@@ -1,0 +1,11 @@
+pub mod EdgesRead
+pub mod LabelsRead
+pub mod Parts
+pub mod PrintLemmas
+pub mod ReadBack
+pub mod ReadNumbers
+pub mod ReadSigns
+pub mod ReadingsRead
+pub mod Sentences
+pub mod Spellings
+pub mod VerticesRead

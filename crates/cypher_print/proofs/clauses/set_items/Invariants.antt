@@ -1,0 +1,8 @@
+use Rattle.std.proofs.Common.{◌≡◌, ◌∷◌, drop, codes}
+use Rattle.std.specs.List.{flat_map}
+use Rattle.cypher_print.specs.Pieces.{written}
+use Rattle.cypher_print.specs.QueryText.{set_item}
+use Rattle.cypher_print.proofs.clauses.set_items.Given as goal
+
+abbrev pub invariant-loop-x : goal.invariant-loop-x
+invariant-loop-x l = written l.out (flat_map (λ y. codes ", " ∷ set_item y) (drop l.x-index l.rest)) ≡ written l.initial.out (flat_map (λ y. codes ", " ∷ set_item y) l.rest)
