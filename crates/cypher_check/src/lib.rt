@@ -9,8 +9,6 @@ mod refused;
 mod same;
 mod scope;
 mod shape;
-#[cfg(test)]
-mod tests;
 mod walk;
 
 pub use checked::Checked;

@@ -23,8 +23,6 @@ mod projections;
 mod queries;
 mod spelling;
 mod stop;
-#[cfg(test)]
-mod tests;
 mod texts;
 mod whole;
 

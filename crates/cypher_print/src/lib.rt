@@ -9,8 +9,6 @@ mod level;
 mod operators;
 mod patterns;
 mod query;
-#[cfg(test)]
-mod tests;
 mod words;
 mod writer;
 

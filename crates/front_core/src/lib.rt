@@ -28,6 +28,3 @@ pub use store::Core;
 
 /// Memory was wanting. No contract says when this answer comes.
 pub type NoMemory = AllocError;
-
-#[cfg(test)]
-mod tests;

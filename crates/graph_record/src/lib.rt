@@ -9,8 +9,6 @@ mod object;
 mod printing;
 mod properties;
 mod shared;
-#[cfg(test)]
-mod tests;
 
 pub use edge_ids::EdgeIds;
 pub use graph::Graph;

@@ -178,6 +178,3 @@ fn write_simple(writer: &mut Writer, value: &Value) -> Result<(), NoMemory>
         _ => writer.null(),
     }
 }
-
-#[cfg(test)]
-mod tests;

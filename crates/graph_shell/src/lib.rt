@@ -20,6 +20,3 @@ use std::alloc::AllocError;
 
 /// Memory was wanting. No contract says when this answer comes.
 pub type NoMemory = AllocError;
-
-#[cfg(test)]
-mod tests;

@@ -181,6 +181,3 @@ fn push_oid(out: &mut String, x: Oid) -> Result<(), NoMemory>
 {
     write!(out, "{x}")
 }
-
-#[cfg(test)]
-mod tests;

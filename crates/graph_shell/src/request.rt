@@ -146,6 +146,3 @@ fn worded_event(alloc: Global, verb: &[u8], words: &[&[u8]]) -> Result<Option<Ev
         Ok(None)
     }
 }
-
-#[cfg(test)]
-mod tests;

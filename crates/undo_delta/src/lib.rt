@@ -35,6 +35,3 @@ use std::alloc::AllocError;
 
 /// Memory was wanting. No contract says when this answer comes.
 pub type NoMemory = AllocError;
-
-#[cfg(test)]
-mod tests;

@@ -1,10 +1,13 @@
 ghost use Rattle.world_model.specs.Replies.{IsAnswerTo};
 ghost use Rattle.world_model.specs.declared.event.Asked.TheVariants as asked;
 
-use super::*;
-use graph_record::VertexRecord;
-use graph_value::{EdgeId, VertexId};
+use graph_record::{Object, VertexRecord};
+use graph_shell::{NoMemory, push_bad_line, push_reply};
+use graph_value::{EdgeId, Oid, VertexId};
+use std::alloc::Global;
 use std::test::Fail;
+use txn_manager::Rival;
+use world_model::{Answer, Asked, Kind, Marked, Refused, Wrote};
 
 /// An answer whose event asks to be told nothing else.
 #[derive(Clone, Copy)]

@@ -1,5 +1,5 @@
 //! Where the clock, the ids and the places for open transactions end.
-use crate::{Core, NoMemory};
+use front_core::{Core, NoMemory};
 use std::alloc::Global;
 use std::test::Fail;
 use undo_delta::Ask;

@@ -1,8 +1,8 @@
-use crate::{
+use front_core::Core;
+use graph_shell::{
     Command, NoMemory, aeong_main, answer_args, answer_line, is_skipped, push_bad_line,
     read_request, read_words, run_events,
 };
-use front_core::Core;
 use graph_value::Text;
 use std::alloc::Global;
 use std::io;

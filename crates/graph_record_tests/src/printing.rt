@@ -1,5 +1,6 @@
-use super::*;
-use crate::{Kind, Properties};
+use graph_record::{EdgeRecord, Kind, Object, Properties, VertexRecord, object_json};
+use graph_value::{EdgeId, Name, NoMemory, Oid, Text, Value, VertexId};
+use std::alloc::Global;
 use std::test::Fail;
 
 fn vertex_text(alloc: Global) -> Result<Text, NoMemory> {

@@ -1,10 +1,10 @@
-use crate::{
+use cypher_parse::parse;
+use cypher_print::{
     labels_are_read_back, least_magnitude_is_read_back, long_signs_are_read_back,
     names_are_read_back, numbers_are_read_back, patterns_are_read_back, print_query,
     readings_are_read_back, schema_names_are_read_back, signs_are_read_back, spaces_are_passed,
     texts_are_read_back, words_are_read_back,
 };
-use cypher_parse::parse;
 use graph_value::{NoMemory, Text};
 use std::alloc::Global;
 use std::test::Fail;

@@ -1,8 +1,7 @@
-mod told;
-
-use super::*;
+use crate::told::told;
+use graph_shell::{NoMemory, is_skipped, read_request};
+use std::alloc::Global;
 use std::test::Fail;
-use told::told;
 
 /// A line, and the request that it is, in other words.
 type Row = (&'static str, &'static str);

@@ -1,11 +1,11 @@
 //! The rows of edges that are made and deleted together with their ends, and of the objects that a write touches.
-use super::premises::is_possible;
-use super::shape::{Shape, Undo, object};
-use super::table::{Side, Write, leads_back, op};
-use crate::{EdgeDeltas, Joined, LoopDeltas, NoMemory, Op, change_edge, change_loop};
+use crate::premises::is_possible;
+use crate::shape::{Shape, Undo, object};
+use crate::table::{Side, Write, leads_back, op};
 use graph_record::Object;
 use graph_value::{EdgeId, Oid, VertexId};
 use std::alloc::Global;
+use undo_delta::{EdgeDeltas, Joined, LoopDeltas, NoMemory, Op, change_edge, change_loop};
 
 /// A write of edge 7 between vertices 1 and 2, and what it does to the one that it comes from, to the one that it goes
 /// to, and to the edge.

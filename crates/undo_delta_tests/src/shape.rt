@@ -1,10 +1,10 @@
 //! Objects and deltas written out. Labels and names are single letters, and values numbers.
 ghost use Rattle.std.specs.Prelude.{◌<◌, length};
 
-use crate::{Delta, Former, NoMemory, Setting};
 use graph_record::{EdgeIds, EdgeRecord, Kind, Labels, Object, Properties, VertexRecord};
 use graph_value::{EdgeId, Name, Value, VertexId};
 use std::alloc::Global;
+use undo_delta::{Delta, Former, NoMemory, Setting};
 
 /// An object that is written out. It holds no reference: a table of names is cheap to prove.
 #[derive(Clone, Copy, PartialEq, Eq)]

@@ -4,9 +4,9 @@ ghost use Rattle.undo_delta.specs.Change as spec;
 ghost use Rattle.graph_value.specs.declared.id.Oid.TheVariants as oid;
 ghost use Rattle.undo_delta.specs.Touch.{is_touched, same_oid};
 
-use crate::Op;
 use graph_record::Object;
 use graph_value::{EdgeId, Oid, VertexId};
+use undo_delta::Op;
 
 /// Whether the write touches the object of this id.
 pub fn is_touched(op: &Op, x: Oid) -> bool

@@ -1,4 +1,6 @@
-use crate::{EdgeIds, EdgeRecord, Graph, Kind, Labels, NoMemory, Object, Properties, VertexRecord};
+use graph_record::{
+    EdgeIds, EdgeRecord, Graph, Kind, Labels, NoMemory, Object, Properties, VertexRecord,
+};
 use graph_value::{EdgeId, Name, Value, VertexId};
 use std::alloc::Global;
 use std::test::Fail;

@@ -1,5 +1,4 @@
-use crate::NoMemory;
-use crate::request::{Request, read_request};
+use graph_shell::{NoMemory, Request, read_request};
 use graph_value::{EdgeId, Name, Oid, Value, VertexId};
 use std::alloc::Global;
 use std::fmt::Write;

@@ -1,4 +1,4 @@
-use crate::{CheckRefused, check, names_are_distinct, names_stand};
+use cypher_check::{CheckRefused, check, names_are_distinct, names_stand};
 use cypher_syntax::{
     Clause, Expr, Item, MatchClause, NodePattern, Pattern, Projection, Query, Time,
 };

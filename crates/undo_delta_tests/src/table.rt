@@ -1,10 +1,10 @@
 //! The rows: what each write and each delta is done to, and what has to come of it.
-use super::premises::{is_possible, is_touched};
-use super::shape::{Shape, Undo, delta, is_shape, is_undo, letter, object};
-use crate::{Delta, DeltaPair, GraphUndo, NoMemory, Op, change};
+use crate::premises::{is_possible, is_touched};
+use crate::shape::{Shape, Undo, delta, is_shape, is_undo, letter, object};
 use graph_record::Object;
 use graph_value::{EdgeId, Oid, Value, VertexId};
 use std::alloc::Global;
+use undo_delta::{Delta, DeltaPair, GraphUndo, NoMemory, Op, change};
 use undo_law::Undo as _;
 
 /// A write, with its numbers and letters.

@@ -1,16 +1,11 @@
 //! Each write and each delta on objects that are written out, compared with what it has to leave.
-mod edges;
-mod premises;
-mod shape;
-mod table;
-
-use crate::{Ask, GraphUndo, NoMemory};
-use edges::{EDGES, LOOPS, TOUCHES};
+use crate::edges::{self, EDGES, LOOPS, TOUCHES};
+use crate::table::{self, DELTAS, WRITES};
 use graph_record::Object;
 use graph_value::VertexId;
 use std::alloc::Global;
 use std::test::Fail;
-use table::{DELTAS, WRITES};
+use undo_delta::{Ask, GraphUndo, NoMemory};
 use undo_law::Undo;
 
 #[test]

@@ -1,4 +1,4 @@
-use crate::{ParseRefused, one_answer, one_tree, only_the_tree, parse};
+use cypher_parse::{ParseRefused, one_answer, one_tree, only_the_tree, parse};
 use graph_value::{NoMemory, Text};
 use std::alloc::Global;
 use std::test::Fail;

@@ -1,0 +1,5 @@
+//! Tests of cypher_print, in a crate of their own: a crate that holds tests is proved once more together with them.
+#![tactic(auto)]
+
+#[cfg(test)]
+mod trees;
