@@ -1,0 +1,4 @@
+pub mod Grouped
+pub mod Grown
+pub mod Made
+pub mod Turned
