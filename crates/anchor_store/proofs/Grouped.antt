@@ -10,6 +10,11 @@ pub joined_all-append : {D : Type 0} (k : ℕ) (newer older : List (Dated D)) (g
 joined_all-append k [] older gs = refl
 joined_all-append k (d ∷ newer) older gs = ap (joined k d) (joined_all-append k newer older gs)
 
+-- the oldest of the deltas that are still to come joins first
+pub joined_all-pop : {D : Type 0} (k : ℕ) (rest all : List (Dated D)) (d : Dated D) (before behind : List (List (Dated D))) → all ≡ rest ++ d ∷ [] → behind ≡ joined k d before → joined_all k rest behind ≡ joined_all k all before
+joined_all-pop k rest all d before behind popped joins =
+    ap (joined_all k rest) joins ∙ sym (joined_all-append k rest (d ∷ []) before) ∙ ap (λ ds. joined_all k ds before) (sym popped)
+
 joined_parts_by : {D : Type 0} (b : Bool) (d : Dated D) (g : List (Dated D)) (gs : List (List (Dated D))) → flat_map (λ g. g) (if b then (d ∷ g) ∷ gs else (d ∷ []) ∷ g ∷ gs) ≡ d ∷ flat_map (λ g. g) (g ∷ gs)
 joined_parts_by true d g gs = refl
 joined_parts_by false d g gs = refl

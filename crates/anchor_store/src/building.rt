@@ -3,7 +3,7 @@ ghost use Rattle.std.specs.Arc.{arc_value};
 ghost use Rattle.std.specs.Option.{option_copied};
 ghost use Rattle.undo_law.specs.Undone.{undone, deltas_of};
 ghost use Rattle.anchor_store.specs.Blocks.{blocks, older_deltas};
-ghost use Rattle.anchor_store.specs.Groups.{AreDescending};
+ghost use Rattle.anchor_store.specs.Groups.{AreDescending, groups};
 
 use crate::group::Groups;
 use crate::{Block, NoMemory};
@@ -24,10 +24,7 @@ pub fn build<U: Undo>(
         (tail.deltas ++ older_deltas (option_copied older.entry))) }
 {
     let Tail { newest, deltas } = tail;
-    let mut groups = Groups::new(alloc);
-    if let Some(block) = older {
-        groups.add_all(alloc, copies::<U>(alloc, block.deltas())?, interval)?;
-    }
+    let mut groups = older_groups::<U>(alloc, older, interval)?;
     groups.add_all(alloc, deltas, interval)?;
     let mut built = Vec::with_capacity(alloc, groups.len())?;
     let mut object = newest;
@@ -38,6 +35,25 @@ pub fn build<U: Undo>(
     }
     built.reverse();
     Ok(built)
+}
+
+/// The groups of an older block's deltas, which stays as it is.
+fn older_groups<U: Undo>(
+    alloc: Global,
+    older: Option<&Block<U>>,
+    interval: u64,
+) -> Result<Groups<U::Delta>, NoMemory>
+    ensures { IfOk result (λ made.
+        made ≡ groups interval (older_deltas (option_copied older.entry))) }
+{
+    let mut made = Groups::new(alloc);
+    match older {
+        None => Ok(made),
+        Some(block) => {
+            made.add_all(alloc, copies::<U>(alloc, block.deltas())?, interval)?;
+            Ok(made)
+        }
+    }
 }
 
 /// The same deltas, in memory of their own.
