@@ -1,4 +1,4 @@
-ghost use Rattle.std.specs.Prelude.{◌≡◌, ◌+◌, ◌<◌, ◌≤◌, IfOk, OnOk, get_or, length};
+ghost use Rattle.std.specs.Prelude.{◌≡◌, ◌+◌, ◌<◌, ◌≤◌, IfOk, OnOk, length, map, slice_get};
 ghost use Rattle.anchor_store.specs.Blocks.{IsBlock, version};
 ghost use Rattle.anchor_store.specs.Groups.{AreAtMost, later};
 
@@ -52,7 +52,7 @@ impl<U: Undo> Block<U> {
 
     /// The timestamp of the newest delta, which is the greatest. Takes no memory.
     pub fn newest_stamp(&self) -> u64
-        ensures first { (d : Dated U.Delta) → result ≡ (get_or self.now.deltas 0 d).ts }
+        ensures first { slice_get (map (λ d. d.ts) self.now.deltas) 0 ≡ Some result }
         ensures greatest { AreAtMost result self.now.deltas }
     {
         self.deltas.as_slice()[0].ts
