@@ -53,6 +53,14 @@ history-append : {O D : Type 0} (older newer : List (BlockParts O D)) → histor
 history-append older newer =
     ap (λ bs. flat_map (λ block. block.deltas) bs) (reverse-append older newer) ∙ flat_map-append (λ block. block.deltas) (reverse newer) (reverse older)
 
+-- the oldest blocks of a row in order are in order
+pub in_order-take : {O D : Type 0} (n : ℕ) (blocks : List (BlockParts O D)) → AreInOrder blocks → AreInOrder (take n blocks)
+in_order-take {O} {D} n blocks order =
+    let P : List (BlockParts O D) → Type 0 = λ bs. AreInOrder bs in
+    let Q : List (Dated D) → Type 0 = λ ds. AreDescending ds in
+    let whole = subst P (sym (take-append-drop n blocks)) order in
+    descending_back (history_of (drop n blocks)) (history_of (take n blocks)) (subst Q (history-append (take n blocks) (drop n blocks)) whole)
+
 split_at : {X : Type 0} (xs : List X) (i : ℕ) (d : X) → i < length xs → xs ≡ take i xs ++ get_or xs i d ∷ drop (i + 1) xs
 split_at xs i d within = sym (take-append-drop i xs) ∙ ap (λ l. take i xs ++ l) (drop_more xs i d within)
 

@@ -2,6 +2,7 @@ ghost use Rattle.std.specs.Prelude.{◌≡◌, ◌<◌, IfOk, length};
 ghost use Rattle.anchor_store.specs.Groups.{AreDescending};
 
 use crate::{Counts, Keeper, NoMemory};
+use anchor_store::laws::blocks_have_the_deltas;
 use anchor_store::{Block, build};
 use std::alloc::Global;
 use std::sync::Arc;
@@ -32,6 +33,7 @@ fn filled(alloc: Global) -> Result<Keeper<Digits>, NoMemory>
     let mut keeper = Keeper::new(alloc);
     let row = keeper.add_row(alloc)?;
     let built = build::<Digits>(alloc, None, sample(alloc)?, 2)?;
+    blocks_have_the_deltas::<Digits>();
     match keeper.extend(row, false, built, 11) {
         Ok(()) => Ok(keeper),
         Err((_, refused)) => Err(refused),
