@@ -1,5 +1,5 @@
 -- That the groups of deltas in order make blocks.
-use Rattle.std.proofs.Common.{◌≡◌, ℕ, ◌<◌, ◌≤◌, Bool, true, false, nat_lt, if◌then◌else◌, List, [], ◌∷◌, ◌++◌, length, sym, subst, arith}
+use Rattle.std.proofs.Common.{ℕ, Bool, true, false, nat_lt, if◌then◌else◌, List, [], ◌∷◌, ◌++◌, length, sym, subst, arith}
 use Rattle.std.specs.List.{flat_map}
 use Rattle.undo_law.specs.declared.dated.Dated.{Dated}
 use Rattle.anchor_store.specs.Blocks.{IsBlock}

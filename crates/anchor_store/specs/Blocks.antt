@@ -1,5 +1,5 @@
 -- The blocks of an object's history. Here `after x d` is the object x after the delta d.
-use Rattle.std.specs.Prelude.{ℕ, ◌<◌, ◌-◌, Bool, true, false, nat_lt, Option, Some, None, List, [], ◌∷◌, if◌then◌else◌, length, reverse, slice_get, take}
+use Rattle.std.specs.Prelude.{ℕ, ◌<◌, ◌-◌, Bool, nat_lt, Option, Some, None, List, [], ◌∷◌, if◌then◌else◌, length, reverse, slice_get, take}
 use Rattle.std.specs.List.{flat_map}
 use Rattle.undo_law.specs.Undone.{undone, deltas_of}
 use Rattle.undo_law.specs.declared.dated.Dated.{Dated}

@@ -1,7 +1,7 @@
 -- What was found, and what it takes to finish it.
 use Rattle.std.specs.Prelude.{ℕ, length}
 use Rattle.std.specs.Arc.{arc_value}
-use Rattle.anchor_store.specs.Blocks.{BlockParts, version}
+use Rattle.anchor_store.specs.Blocks.{version}
 use Rattle.anchor_store.specs.Groups.{later}
 use Rattle.anchor_store.specs.declared.found.Found.{Found}
 use Rattle.anchor_store.specs.declared.found.Found.TheVariants.{Ready, InBlock}

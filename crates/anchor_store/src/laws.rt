@@ -28,5 +28,5 @@ pub fn blocks_grow_at_the_newest<U: Undo>()
         let before = blocks U.after k (undone U.after newest (deltas_of newer)) history in
         let filled = smaller_than k (newest_of before) in
         blocks U.after k newest (newer ++ history) ≡ staying (is_some filled) before
-            ++ blocks U.after k newest (newer ++ older_deltas filled) }
+        ++ blocks U.after k newest (newer ++ older_deltas filled) }
 {}

@@ -89,8 +89,14 @@ fn fill_up(
     let _order = older.deltas();
     let _stamp = older.newest_stamp();
     let deltas = vec![in alloc;
-        Dated { ts: u64::MAX, delta: 8 },
-        Dated { ts: u64::MAX, delta: 7 },
+        Dated {
+            ts: u64::MAX,
+            delta: 8
+        },
+        Dated {
+            ts: u64::MAX,
+            delta: 7
+        },
     ]?;
     let tail = Tail {
         newest: 6,

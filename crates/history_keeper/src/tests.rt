@@ -63,9 +63,19 @@ fn the_oldest_block_with_a_later_delta_is_located(rt: HostRuntime) -> Result<(),
     for (t, wanted) in rows {
         assert_eq!(rt; stamp_of(keeper.locate(0, t)), wanted, "at {t}");
     }
-    let rows = [(0, Some(4)), (1, Some(8)), (2, Some(10)), (3, None), (u64::MAX, None)];
+    let rows = [
+        (0, Some(4)),
+        (1, Some(8)),
+        (2, Some(10)),
+        (3, None),
+        (u64::MAX, None),
+    ];
     for (place, wanted) in rows {
-        assert_eq!(rt; stamp_of(keeper.block(0, place)), wanted, "at place {place}");
+        assert_eq!(rt;
+            stamp_of(keeper.block(0, place)),
+            wanted,
+            "at place {place}"
+        );
     }
     Ok(())
 }

@@ -2,8 +2,8 @@ use Rattle.std.proofs.Common.{◌≡◌, ◌++◌, [], ap, sym, subst, ◌∙◌
 use Rattle.std.proofs.lemmas.List.{append-nil}
 use Rattle.std.specs.Arc.{arc_value}
 use Rattle.std.specs.Option.{option_copied}
-use Rattle.anchor_store.specs.Blocks.{anchored, blocks, older_deltas}
-use Rattle.anchor_store.specs.Groups.{AreDescending, joined_all, groups}
+use Rattle.anchor_store.specs.Blocks.{anchored, older_deltas}
+use Rattle.anchor_store.specs.Groups.{joined_all, groups}
 use Rattle.anchor_store.proofs.Grouped.{joined_all-append}
 use Rattle.anchor_store.proofs.Made.{AreBlocks, groups_blocks}
 use Rattle.anchor_store.proofs.Turned.{map-reverse}

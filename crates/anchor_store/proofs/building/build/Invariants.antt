@@ -10,7 +10,7 @@ use Rattle.anchor_store.proofs.building.build.Given as goal
 abbrev pub invariant-loop-deltas : goal.invariant-loop-deltas
 invariant-loop-deltas g l = record {
   built : map arc_value l.built.items ++ anchored g.U.Undo.after l.object l.groups
-    ≡ anchored g.U.Undo.after l.fn.tail.newest (groups l.fn.interval (l.fn.tail.deltas ++ older_deltas (option_copied l.fn.older)));
+      ≡ anchored g.U.Undo.after l.fn.tail.newest (groups l.fn.interval (l.fn.tail.deltas ++ older_deltas (option_copied l.fn.older)));
   blocks : AreBlocks l.groups;
 }
 
