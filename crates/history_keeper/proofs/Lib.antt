@@ -1,0 +1,3 @@
+pub mod Extended
+pub mod Finding
+pub mod Stays
