@@ -19,6 +19,7 @@ pub mod Replies
 pub mod Effects
 pub mod Undo
 pub mod Marks
+pub mod Growing
 pub mod Answered
 pub mod OpenUndo
 mod Worked

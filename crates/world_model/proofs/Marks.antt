@@ -156,7 +156,7 @@ run_mark w (e ∷ es) o =
     let rest = run_mark (world_after w e) es (entry_keeps_order w e o) in
     omega arith
 
-run-more : (w : World) (es later : List Entry) → run w (es ++ later) ≡ run (run w es) later
+pub run-more : (w : World) (es later : List Entry) → run w (es ++ later) ≡ run (run w es) later
 unfolding run
 run-more w [] later = refl
 run-more w (e ∷ es) later = run-more (world_after w e) es later

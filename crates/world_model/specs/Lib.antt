@@ -8,3 +8,4 @@ pub mod History
 pub mod Change
 pub mod Replies
 pub mod Undo
+pub mod Placement

@@ -1,6 +1,6 @@
 //! Laws over the definitions. Each is a function that does nothing: its contract is the law, proved for every world.
 
-ghost use Rattle.std.specs.Prelude.{◌≡◌, ◌≤◌, ◌↔◌, ◌++◌, true, false, ℕ, List, Option, Some, None, map, IsTrue};
+ghost use Rattle.std.specs.Prelude.{◌≡◌, ◌<◌, ◌≤◌, ◌↔◌, ◌++◌, true, false, ℕ, List, Option, Some, None, map, IsTrue};
 ghost use Rattle.graph_value.specs.declared.id.Oid.{Oid};
 ghost use Rattle.graph_record.specs.Graph.{Graph, IsCoherent, object_at, is_dead};
 ghost use Rattle.undo_delta.specs.Change.{changed};
@@ -17,6 +17,7 @@ ghost use Rattle.undo_delta.specs.Apply.{after};
 ghost use Rattle.world_model.specs.declared.event.Kind.{Kind};
 ghost use Rattle.world_model.specs.Views.{IsNext, is_above, next_id, oid_of};
 ghost use Rattle.world_model.specs.Undo.{open_list, undo_list, undone_above};
+ghost use Rattle.world_model.specs.Placement.{expired};
 ghost use Rattle.world_model.specs.Asked.{op_of};
 ghost use Rattle.world_model.specs.Refusals.{write_refusal};
 ghost use Rattle.world_model.specs.Step.{step, unchanged};
@@ -120,4 +121,17 @@ pub fn marks_never_fall()
         mark w ≤ mark (step w caller event).world }
     ensures histories { (s : Start) (es later : List Entry) → IsStart s →
         mark (run (start_world s) es) ≤ mark (run (start_world s) (es ++ later)) }
+{}
+
+/// What happens later changes neither the graph at an instant below the clock, nor the deltas of an object below the
+/// mark. So an instant that has been read reads the same for ever, and what is taken out of a chain below the mark is
+/// right whenever it is put elsewhere.
+pub fn the_past_stays()
+    ensures instants { (s : Start) (es later : List Entry) (t : ℕ) →
+        t < (run (start_world s) es).clock →
+        graph_at (run (start_world s) (es ++ later)).commits t
+        ≡ graph_at (run (start_world s) es).commits t }
+    ensures expired { (s : Start) (es later : List Entry) (x : Oid) → IsStart s →
+        expired (mark (run (start_world s) es)) (undo_list (run (start_world s) (es ++ later)) x)
+        ≡ expired (mark (run (start_world s) es)) (undo_list (run (start_world s) es) x) }
 {}

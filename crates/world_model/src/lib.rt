@@ -13,5 +13,5 @@ pub use event::{Asked, Event, Kind, When};
 pub use law::{
     commits_rise, deltas_lead_back, effects_are_seen, graphs_are_coherent, histories_keep_order,
     marks_never_fall, objects_have_form, open_deltas_lead_back, searches_find_the_next,
-    steps_keep_order, writes_are_answered, writes_change_their_objects,
+    steps_keep_order, the_past_stays, writes_are_answered, writes_change_their_objects,
 };
