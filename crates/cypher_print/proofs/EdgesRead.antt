@@ -71,10 +71,10 @@ parted_kinds (y ∷ ys) behind h = ap (λ zs. parts_name (zs ++ behind)) (kinds_
 -- ---- edges
 
 module _ (E : Lang Expr) where
-  abbrev body : Option (List ℕ) → List (List ℕ) → Properties → List ℕ
+  abbrev pub body : Option (List ℕ) → List (List ℕ) → Properties → List ℕ
   body o ys m = written [] (optional_name o) ++ (written [] (kinds ys) ++ written [] (map_text m))
 
-  edge_is : (front back : List ℕ) (o : Option (List ℕ)) (ys : List (List ℕ)) (m : Properties)
+  pub edge_is : (front back : List ℕ) (o : Option (List ℕ)) (ys : List (List ℕ)) (m : Properties)
       → written [] ((front ∷ optional_name o) ++ kinds ys ++ map_text m ++ back ∷ []) ≡ front ++ (body o ys m ++ back)
   edge_is front back o ys m =
       let N = written [] (optional_name o) in
@@ -104,7 +104,7 @@ module _ (E : Lang Expr) where
       (in_turn (Opt [] Kinds) (MapOrNone E) (Seq (Opt [] Kinds) (MapOrNone E)) ys m (ys, m) (λ ts us u v. (ts, us, refl, u, v)) K M behind
       (kinds_read ys (M ++ behind) are map_parts) (map_or_none E m behind map_is))
 
-  abbrev between : Option (List ℕ) → List (List ℕ) → Properties → List ℕ
+  abbrev pub between : Option (List ℕ) → List (List ℕ) → Properties → List ℕ
   between o ys m = ((91 ∷ []) ++ (body o ys m ++ (93 ∷ []))) ++ (45 ∷ [])
 
   inner : (o : Option (List ℕ)) (ys : List (List ℕ)) (m : Properties) (behind : List ℕ) → IsNameOrNone o → All IsName ys → IsMapOrNone E m
@@ -123,7 +123,7 @@ module _ (E : Lang Expr) where
   no_greater : (behind : List ℕ) → IsSentence (Flag k.Greater) false [] behind
   no_greater behind = no_token (Flag k.Greater) false behind (inr (refl, refl))
 
-  a_greater : (behind : List ℕ) → parts_sign 62 behind ≡ true → IsSentence (Flag k.Greater) true (62 ∷ []) behind
+  pub a_greater : (behind : List ℕ) → parts_sign 62 behind ≡ true → IsSentence (Flag k.Greater) true (62 ∷ []) behind
   a_greater behind parts = as_part (Passes (k.Greater ∷ [])) (Flag k.Greater) tt true (λ ts u. inl (u.0, (u.1, u.2), refl)) (62 ∷ []) behind (greater behind parts)
 
   -- with a dash in front
@@ -150,7 +150,7 @@ module _ (E : Lang Expr) where
       (behind_token (k.Minus ∷ []) L d (45 ∷ []) (between o ys m) behind (minus (between o ys m ++ behind)) (inner o ys m behind is are map_is)))
 
   -- the parts between brackets, regrouped
-  regrouped : (D tail : List ℕ) → 45 ∷ 91 ∷ (D ++ (93 ∷ 45 ∷ tail)) ≡ 45 ∷ ((91 ∷ ((D ++ (93 ∷ [])) ++ (45 ∷ []))) ++ tail)
+  pub regrouped : (D tail : List ℕ) → 45 ∷ 91 ∷ (D ++ (93 ∷ 45 ∷ tail)) ≡ 45 ∷ ((91 ∷ ((D ++ (93 ∷ [])) ++ (45 ∷ []))) ++ tail)
   regrouped D tail = ap (λ (zs : List ℕ). 45 ∷ 91 ∷ zs) (sym (append_assoc (D ++ (93 ∷ [])) (45 ∷ []) tail ∙ append_assoc D (93 ∷ []) ((45 ∷ []) ++ tail)))
 
   by_arrow : (o : Option (List ℕ)) (ys : List (List ℕ)) (m : Properties) (a : Arrow) (behind : List ℕ) → IsNameOrNone o → All IsName ys → IsMapOrNone E m → parts_sign 62 behind ≡ true

@@ -1,11 +1,15 @@
 pub mod EdgesRead
 pub mod LabelsRead
+pub mod NewEdgesRead
 pub mod Parts
 pub mod PrintLemmas
 pub mod ReadBack
 pub mod ReadNumbers
 pub mod ReadSigns
+pub mod Reading
 pub mod ReadingsRead
 pub mod Sentences
 pub mod Spellings
+pub mod UpdatesRead
 pub mod VerticesRead
+pub mod Words

@@ -6,14 +6,17 @@ ghost use Rattle.cypher_syntax.specs.Bytes.{is_sign, is_long_sign};
 ghost use Rattle.cypher_syntax.specs.Lexing.{lexed_from};
 ghost use Rattle.cypher_syntax.specs.declared.tree.pattern.Pattern.{Pattern as AnyPattern};
 ghost use Rattle.cypher_syntax.specs.declared.tree.clause.Clause.{Clause as AnyClause};
+ghost use Rattle.cypher_syntax.specs.declared.tree.clause.Clause.TheVariants as clause;
+ghost use Rattle.cypher_syntax.specs.declared.tree.clause.Update.{Update as AnyUpdate};
 ghost use Rattle.cypher_parse.specs.declared.kinds.TheConstants as kinds;
 ghost use Rattle.cypher_parse.specs.Expressions.{Expression};
-ghost use Rattle.cypher_parse.specs.Clauses.{Reading};
+ghost use Rattle.cypher_parse.specs.Clauses.{Reading, Updating};
 ghost use Rattle.cypher_parse.specs.Patterns.{LabelsOrNone, Path};
 ghost use Rattle.cypher_print.specs.Pieces.{written, is_word, name, schema, quoted};
 ghost use Rattle.cypher_print.specs.ReadBack.{parts_word, parts_name, parts_sign, IsReadAs, IsNamed, IsText, IsNumber, IsLeast, IsWordOf, IsSignOf};
 ghost use Rattle.cypher_print.specs.Printed.{labels};
-ghost use Rattle.cypher_print.specs.QueryText.{pattern, clause_text};
+ghost use Rattle.cypher_print.specs.QueryText.{pattern, clause_text, update_text};
+ghost use Rattle.cypher_print.specs.QuerySentences.{IsUpdate};
 ghost use Rattle.cypher_print.specs.Sentences.{IsSentence, All, IsName, IsPattern, IsReading};
 
 /// A printed name is read as that name, where what stands behind it doesn't go on with it.
@@ -90,4 +93,13 @@ pub fn readings_are_read_back()
     ensures { (m : ℕ) (c : AnyClause) (behind : List ℕ) →
         IsReading (Expression m) c → parts_name behind ≡ true →
         IsSentence (Reading (Expression m)) c (written [] (clause_text c)) behind }
+{}
+
+/// The tokens of a printed clause that writes are a sentence of the grammar of such clauses with this one as its value, where
+/// names aren't empty, no list is, an edge that is made has one kind and a direction, and the same holds of the expressions
+/// in it.
+pub fn updates_are_read_back()
+    ensures { (m : ℕ) (u : AnyUpdate) (behind : List ℕ) →
+        IsUpdate (Expression m) u → parts_name behind ≡ true →
+        IsSentence (Updating (Expression m)) (clause.Update u) (written [] (update_text u)) behind }
 {}
