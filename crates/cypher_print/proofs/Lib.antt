@@ -3,6 +3,8 @@ pub mod LabelsRead
 pub mod NewEdgesRead
 pub mod Parts
 pub mod PrintLemmas
+pub mod ProjectionsRead
+pub mod QueriesRead
 pub mod ReadBack
 pub mod ReadNumbers
 pub mod ReadSigns

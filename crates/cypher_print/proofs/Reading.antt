@@ -110,10 +110,16 @@ right x = via (λ ts u. inr u) x
 pub none : {A : Type 0} {L : Lang A} {a : A} → Read (Opt a L) a []
 none {L = L} {a = a} = record { reads = λ behind _. no_token (Opt a L) a behind (inr (refl, refl)) }
 
+pub none_sure : {A : Type 0} {L : Lang A} {a : A} → Sure (Opt a L) a []
+none_sure {L = L} {a = a} = record { reads = λ behind. no_token (Opt a L) a behind (inr (refl, refl)) }
+
 -- ---- the same bytes in other pieces
 
 pub rewritten : {A : Type 0} {L : Lang A} {a : A} {p q : Pieces} → written [] p ≡ written [] q → Read L a p → Read L a q
 rewritten {L = L} {a = a} e x = record { reads = λ behind h. subst (λ bytes. IsSentence L a bytes behind) e (x.reads behind h) }
+
+pub rewritten_sure : {A : Type 0} {L : Lang A} {a : A} {p q : Pieces} → p ≡ q → Sure L a p → Sure L a q
+rewritten_sure {L = L} {a = a} e x = subst (λ ps. Sure L a ps) e x
 
 pub regrouped : {A : Type 0} {L : Lang A} {a : A} (p q r : Pieces) → Read L a (p ++ (q ++ r)) → Read L a ((p ++ q) ++ r)
 regrouped {L = L} {a = a} p q r x = subst (λ ps. Read L a ps) (sym (append_assoc p q r)) x

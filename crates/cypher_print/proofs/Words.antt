@@ -16,8 +16,8 @@ use Rattle.cypher_print.specs.Sentences.{IsSentence}
 use Rattle.cypher_print.proofs.ReadBack.{split}
 use Rattle.cypher_print.proofs.ReadSigns.{words, long_signs, passed}
 use Rattle.cypher_print.proofs.Sentences.{Passes, passes}
-use Rattle.cypher_print.proofs.Parts.{sign, spaced}
-use Rattle.cypher_print.proofs.Reading.{Sure, Token, Word}
+use Rattle.cypher_print.proofs.Parts.{sign, lone, spaced}
+use Rattle.cypher_print.proofs.Reading.{Sure, Token, Word, via}
 
 -- in front of a space
 pub trailing : {A : Type 0} (L : Lang A) (a : A) (p behind : List ℕ) → IsSentence L a p (32 ∷ behind) → IsSentence L a (p ++ 32 ∷ []) behind
@@ -107,3 +107,75 @@ delete = front (codes "DELETE") k.Delete (refl, refl, refl)
 pub equal : Token (k.Equal ∷ []) (codes " = " ∷ [])
 unfolding kind_of
 equal = spaced_sign 61 k.Equal refl refl refl (λ behind. refl)
+
+-- ---- those of projections
+
+pub distinct : Token (k.Distinct ∷ []) (codes "DISTINCT " ∷ [])
+unfolding kind_of
+distinct = front (codes "DISTINCT") k.Distinct (refl, refl, refl)
+
+pub order : Token (k.Order ∷ []) (codes " ORDER " ∷ [])
+unfolding kind_of
+order = between (codes "ORDER") k.Order (refl, refl, refl)
+
+pub by : Token (k.By ∷ []) (codes "BY " ∷ [])
+unfolding kind_of
+by = front (codes "BY") k.By (refl, refl, refl)
+
+pub skip : Token (k.Skip ∷ []) (codes " SKIP " ∷ [])
+unfolding kind_of
+skip = between (codes "SKIP") k.Skip (refl, refl, refl)
+
+pub limit : Token (k.Limit ∷ []) (codes " LIMIT " ∷ [])
+unfolding kind_of
+limit = between (codes "LIMIT") k.Limit (refl, refl, refl)
+
+pub as_word : Token (k.As ∷ []) (codes " AS " ∷ [])
+unfolding kind_of
+as_word = between (codes "AS") k.As (refl, refl, refl)
+
+pub star : Word (k.Star ∷ []) (codes "*" ∷ [])
+unfolding kind_of
+star = record { word = record { reads = λ behind h. sign 42 k.Star refl refl refl behind (lone 42 refl refl refl refl behind) } }
+
+more : (a b c : Bool) → a || c ≡ true → a || (b || c) ≡ true
+more true b c h = refl
+more false true c h = refl
+more false false c h = h
+
+last_down : Word (k.Desc ∷ []) (codes " DESC" ∷ [])
+unfolding kind_of
+last_down = back (codes "DESC") k.Desc (refl, refl, refl)
+
+pub desc : Word (k.Desc ∷ k.Descending ∷ []) (codes " DESC" ∷ [])
+desc = record { word = via (λ ts u. (u.0, u.1, more (eqb (number u.0.kind) (number k.Desc)) (eqb (number u.0.kind) (number k.Descending)) false u.2)) last_down.word }
+
+-- ---- those of queries
+
+pub with_word : Token (k.With ∷ []) (codes "WITH " ∷ [])
+unfolding kind_of
+with_word = front (codes "WITH") k.With (refl, refl, refl)
+
+pub return_word : Token (k.Return ∷ []) (codes "RETURN " ∷ [])
+unfolding kind_of
+return_word = front (codes "RETURN") k.Return (refl, refl, refl)
+
+pub tt_word : Token (k.Tt ∷ []) (codes "TT " ∷ [])
+unfolding kind_of
+tt_word = front (codes "TT") k.Tt (refl, refl, refl)
+
+pub snapshot : Token (k.Snapshot ∷ []) (codes "SNAPSHOT " ∷ [])
+unfolding kind_of
+snapshot = front (codes "SNAPSHOT") k.Snapshot (refl, refl, refl)
+
+pub between_word : Token (k.Between ∷ []) (codes "BETWEEN " ∷ [])
+unfolding kind_of
+between_word = front (codes "BETWEEN") k.Between (refl, refl, refl)
+
+pub and_word : Token (k.And ∷ []) (codes " AND " ∷ [])
+unfolding kind_of
+and_word = between (codes "AND") k.And (refl, refl, refl)
+
+pub semicolon : Word (k.Semicolon ∷ []) (codes ";" ∷ [])
+unfolding kind_of
+semicolon = record { word = record { reads = λ behind h. sign 59 k.Semicolon refl refl refl behind (lone 59 refl refl refl refl behind) } }

@@ -8,15 +8,17 @@ ghost use Rattle.cypher_syntax.specs.declared.tree.pattern.Pattern.{Pattern as A
 ghost use Rattle.cypher_syntax.specs.declared.tree.clause.Clause.{Clause as AnyClause};
 ghost use Rattle.cypher_syntax.specs.declared.tree.clause.Clause.TheVariants as clause;
 ghost use Rattle.cypher_syntax.specs.declared.tree.clause.Update.{Update as AnyUpdate};
+ghost use Rattle.cypher_syntax.specs.declared.tree.query.Query.{Query as AnyQuery};
 ghost use Rattle.cypher_parse.specs.declared.kinds.TheConstants as kinds;
 ghost use Rattle.cypher_parse.specs.Expressions.{Expression};
 ghost use Rattle.cypher_parse.specs.Clauses.{Reading, Updating};
+ghost use Rattle.cypher_parse.specs.Queries.{QueryAt};
 ghost use Rattle.cypher_parse.specs.Patterns.{LabelsOrNone, Path};
 ghost use Rattle.cypher_print.specs.Pieces.{written, is_word, name, schema, quoted};
 ghost use Rattle.cypher_print.specs.ReadBack.{parts_word, parts_name, parts_sign, IsReadAs, IsNamed, IsText, IsNumber, IsLeast, IsWordOf, IsSignOf};
 ghost use Rattle.cypher_print.specs.Printed.{labels};
-ghost use Rattle.cypher_print.specs.QueryText.{pattern, clause_text, update_text};
-ghost use Rattle.cypher_print.specs.QuerySentences.{IsUpdate};
+ghost use Rattle.cypher_print.specs.QueryText.{pattern, clause_text, update_text, query_text};
+ghost use Rattle.cypher_print.specs.QuerySentences.{IsUpdate, IsQuery};
 ghost use Rattle.cypher_print.specs.Sentences.{IsSentence, All, IsName, IsPattern, IsReading};
 
 /// A printed name is read as that name, where what stands behind it doesn't go on with it.
@@ -102,4 +104,13 @@ pub fn updates_are_read_back()
     ensures { (m : ℕ) (u : AnyUpdate) (behind : List ℕ) →
         IsUpdate (Expression m) u → parts_name behind ≡ true →
         IsSentence (Updating (Expression m)) (clause.Update u) (written [] (update_text u)) behind }
+{}
+
+/// The tokens of a printed query are a sentence of the grammar of queries with this one as its value, where names aren't
+/// empty, numbers fit, each part has clauses that read in front of clauses that write, there is something where a list has to
+/// have an element, and the same holds of the expressions in it.
+pub fn queries_are_read_back()
+    ensures { (m : ℕ) (q : AnyQuery) (behind : List ℕ) →
+        IsQuery (Expression m) q → parts_name behind ≡ true →
+        IsSentence (QueryAt m) q (query_text q) behind }
 {}
