@@ -1,4 +1,5 @@
 pub mod EdgesRead
+pub mod Holds
 pub mod LabelsRead
 pub mod NewEdgesRead
 pub mod Parts
@@ -10,6 +11,7 @@ pub mod ReadNumbers
 pub mod ReadSigns
 pub mod Reading
 pub mod ReadingsRead
+pub mod RealTokens
 pub mod Sentences
 pub mod Spellings
 pub mod UpdatesRead
