@@ -1,8 +1,10 @@
 pub mod EdgesRead
+pub mod ExpressionLevels
 pub mod Holds
 pub mod LabelsRead
 pub mod NewEdgesRead
 pub mod Parts
+pub mod PlacedRead
 pub mod PrintLemmas
 pub mod ProjectionsRead
 pub mod QueriesRead
