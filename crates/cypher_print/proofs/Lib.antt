@@ -1,8 +1,12 @@
+pub mod ChainsRead
 pub mod EdgesRead
 pub mod ExpressionLevels
+pub mod ExpressionWords
 pub mod Holds
 pub mod LabelsRead
 pub mod NewEdgesRead
+pub mod OperatorSigns
+pub mod OperatorsRead
 pub mod Parts
 pub mod PlacedRead
 pub mod PrintLemmas
@@ -16,6 +20,7 @@ pub mod ReadingsRead
 pub mod RealTokens
 pub mod Sentences
 pub mod Spellings
+pub mod TestsRead
 pub mod UpdatesRead
 pub mod VerticesRead
 pub mod Words

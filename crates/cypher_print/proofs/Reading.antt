@@ -126,13 +126,13 @@ regrouped {L = L} {a = a} p q r x = subst (λ ps. Read L a ps) (sym (append_asso
 
 -- ---- any number of them
 
-pub many_apart : {A : Type 0} (f : A → Pieces) (xs : List A) → ((x : A) → Apart (f x)) → Apart (flat_map f xs)
-many_apart f [] o = apart_none
-many_apart f (x ∷ xs) o = apart_both (o x) (many_apart f xs o)
+pub many_apart : {A : Type 0} (f : A → Pieces) (Good : A → Type 0) → ((x : A) → Good x → Apart (f x)) → (xs : List A) → All Good xs → Apart (flat_map f xs)
+many_apart f Good o [] are = apart_none
+many_apart f Good o (x ∷ xs) are = apart_both (o x are.0) (many_apart f Good o xs are.1)
 
-pub many : {A : Type 0} {L : Lang A} (f : A → Pieces) (Good : A → Type 0) → ((x : A) → Good x → Read L x (f x)) → ((x : A) → Apart (f x)) → (xs : List A) → All Good xs → Read (Many L) xs (flat_map f xs)
+pub many : {A : Type 0} {L : Lang A} (f : A → Pieces) (Good : A → Type 0) → ((x : A) → Good x → Read L x (f x)) → ((x : A) → Good x → Apart (f x)) → (xs : List A) → All Good xs → Read (Many L) xs (flat_map f xs)
 many {L = L} f Good each o [] are = record { reads = λ behind _. no_token (Many L) [] behind refl }
-many {L = L} f Good each o (x ∷ xs) are = via (λ ts u. u) (seq (each x are.0) (many {L = L} f Good each o xs are.1) (many_apart f xs o))
+many {L = L} f Good each o (x ∷ xs) are = via (λ ts u. u) (seq (each x are.0) (many {L = L} f Good each o xs are.1) (many_apart f Good o xs are.1))
 
 pub many_sure : {A : Type 0} {L : Lang A} (f : A → Pieces) (Good : A → Type 0) → ((x : A) → Good x → Sure L x (f x)) → (xs : List A) → All Good xs → Sure (Many L) xs (flat_map f xs)
 many_sure {L = L} f Good each [] are = record { reads = λ behind. no_token (Many L) [] behind refl }
@@ -146,4 +146,4 @@ pub listed : {A : Type 0} {L : Lang A} {kinds : List Kind} (s : List ℕ) (f : A
     → (x : A) (xs : List A) → All Good (x ∷ xs) → Read (Listed kinds L) (x ∷ xs) (joined s f (x ∷ xs))
 listed {L = L} {kinds = kinds} s f Good sep o each x xs are =
     mapped (λ p. p.0 ∷ p.1)
-    (seq (each x are.0) (many {L = After kinds L} (λ y. s ∷ f y) Good (λ y is. after_sure sep (each y is)) (λ y. o (f y)) xs are.1) (many_apart (λ y. s ∷ f y) xs (λ y. o (f y))))
+    (seq (each x are.0) (many {L = After kinds L} (λ y. s ∷ f y) Good (λ y is. after_sure sep (each y is)) (λ y is. o (f y)) xs are.1) (many_apart (λ y. s ∷ f y) Good (λ y is. o (f y)) xs are.1))

@@ -50,14 +50,14 @@ colon_token = record { token = record { reads = λ behind. colon behind } }
 label : (n : List ℕ) → IsName n → Read Label n (codes ":" ∷ schema n)
 label n is = after_sure colon_token (a_schema n is)
 
+pub labels_apart : (names : List (List ℕ)) → All IsName names → Apart (labels names)
+labels_apart names are = many_apart (λ n. codes ":" ∷ schema n) IsName (λ n is. begins 58 [] (schema n) refl) names are
+
 pub some_labels : (names : List (List ℕ)) → AllSome IsName names → Read Labels names (labels names)
 some_labels [] are = absurd (omega (arith, are.0))
 some_labels (n ∷ names) are =
     mapped (λ p. p.0 ∷ p.1)
-    (seq (label n are.1.0) (many {L = Label} (λ n. codes ":" ∷ schema n) IsName label (λ n. begins 58 [] (schema n) refl) names are.1.1) (many_apart (λ n. codes ":" ∷ schema n) names (λ n. begins 58 [] (schema n) refl)))
-
-labels_apart : (names : List (List ℕ)) → Apart (labels names)
-labels_apart names = many_apart (λ n. codes ":" ∷ schema n) names (λ n. begins 58 [] (schema n) refl)
+    (seq (label n are.1.0) (many {L = Label} (λ n. codes ":" ∷ schema n) IsName label (λ n is. begins 58 [] (schema n) refl) names are.1.1) (labels_apart names are.1.1))
 
 -- ---- points
 
@@ -106,7 +106,7 @@ commas f Good each (x ∷ xs) are = listed (codes ", ") f Good comma_token (λ p
 remove_item_read : (i : RemoveItem) → IsRemoveItem i → Read Remove i (remove_item i)
 unfolding Remove
 remove_item_read (remove.Prop n key) is = left (via (λ ts u. ((n, key), u, refl)) (seq (a_name n is.0) (after_point (dotless_schema key) (a_schema key is.1)) (begins 46 [] (schema key) refl)))
-remove_item_read (remove.Labels n ls) is = right (via (λ ts u. ((n, ls), u, refl)) (seq (a_name n is.0) (some_labels ls is.1) (labels_apart ls)))
+remove_item_read (remove.Labels n ls) is = right (via (λ ts u. ((n, ls), u, refl)) (seq (a_name n is.0) (some_labels ls is.1) (labels_apart ls is.1.1)))
 
 detach_read : (b : Bool) → Sure (Flag k.Detach) b (detach_word b)
 detach_read true = via_sure (λ ts u. inl (u.0, (u.1, u.2), refl)) detach.token
@@ -123,7 +123,7 @@ module _ (E : Lang Expr) where
       (seq (a_name n is.0)
       (after_point (dotless_both (codes " = " ∷ expr x 0) (dotless_schema key)) (seq (a_schema key is.1) (after_sure equal (an_expr x is.2)) (begins 32 (61 ∷ 32 ∷ []) (expr x 0) refl)))
       (begins 46 [] (schema key ++ codes " = " ∷ expr x 0) refl))))
-  set_item_read (set.Labels n ls) is = right (via (λ ts u. ((n, ls), u, refl)) (seq (a_name n is.0) (some_labels ls is.1) (labels_apart ls)))
+  set_item_read (set.Labels n ls) is = right (via (λ ts u. ((n, ls), u, refl)) (seq (a_name n is.0) (some_labels ls is.1) (labels_apart ls is.1.1)))
 
   pub updating : (u : Update) → IsUpdate E u → Read (Updating E) (clause.Update u) (update_text u)
   unfolding Create SetClause RemoveClause Delete

@@ -33,7 +33,7 @@ trailing L a p behind h before =
     )
 
 -- between two spaces
-spaced_out : {A : Type 0} (L : Lang A) (a : A) (p : List ℕ) → ((behind : List ℕ) → IsSentence L a p (32 ∷ behind)) → Sure L a ((32 ∷ (p ++ 32 ∷ [])) ∷ [])
+pub spaced_out : {A : Type 0} (L : Lang A) (a : A) (p : List ℕ) → ((behind : List ℕ) → IsSentence L a p (32 ∷ behind)) → Sure L a ((32 ∷ (p ++ 32 ∷ [])) ∷ [])
 spaced_out L a p h = record { reads = λ behind. spaced L a (p ++ 32 ∷ []) behind (trailing L a p behind (h behind)) }
 
 -- ---- keywords
