@@ -3,6 +3,7 @@ pub mod EdgesRead
 pub mod ExpressionLevels
 pub mod ExpressionWords
 pub mod Holds
+pub mod InsideRead
 pub mod LabelsRead
 pub mod NewEdgesRead
 pub mod OperatorSigns
@@ -19,6 +20,7 @@ pub mod Reading
 pub mod ReadingsRead
 pub mod RealTokens
 pub mod Sentences
+pub mod SignsRead
 pub mod Spellings
 pub mod TestsRead
 pub mod UpdatesRead
