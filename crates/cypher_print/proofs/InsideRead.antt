@@ -33,7 +33,7 @@ pub of_enter : {A B : Type 0} {L : Lang A} {P : A → Type 0} (b : Bool) (kinds 
 of_enter true kinds f Q g x = of_map f Q (g refl) (of_after kinds x)
 of_enter false kinds f Q g x = record { holds = λ ts b real l. absurd l }
 
-at_one_more : (P : ℕ → Type 0) (n m : ℕ) → 0 < n → n ≤ m → ((j : ℕ) → n ≤ suc j → P (suc j)) → P m
+pub at_one_more : (P : ℕ → Type 0) (n m : ℕ) → 0 < n → n ≤ m → ((j : ℕ) → n ≤ suc j → P (suc j)) → P m
 at_one_more P n zero some more f = absurd (omega (arith, some, more))
 at_one_more P n (suc j) some more f = f j more
 

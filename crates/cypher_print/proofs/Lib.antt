@@ -1,3 +1,4 @@
+pub mod CallsRead
 pub mod ChainsRead
 pub mod EdgesRead
 pub mod ExpressionLevels
@@ -5,6 +6,8 @@ pub mod ExpressionWords
 pub mod Holds
 pub mod InsideRead
 pub mod LabelsRead
+pub mod LiteralsRead
+pub mod NamesRead
 pub mod NewEdgesRead
 pub mod OperatorSigns
 pub mod OperatorsRead
@@ -22,6 +25,7 @@ pub mod RealTokens
 pub mod Sentences
 pub mod SignsRead
 pub mod Spellings
+pub mod StepsRead
 pub mod TestsRead
 pub mod UpdatesRead
 pub mod VerticesRead

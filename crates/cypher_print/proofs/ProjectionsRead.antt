@@ -58,7 +58,7 @@ apart_option w (Some x) = begins 32 w (expr x 0) refl
 
 -- ---- DISTINCT and `*`
 
-distinct_read : (b : Bool) → Sure (Flag k.Distinct) b (distinct_word b)
+pub distinct_read : (b : Bool) → Sure (Flag k.Distinct) b (distinct_word b)
 distinct_read true = via_sure (λ ts u. inl (u.0, (u.1, u.2), refl)) distinct.token
 distinct_read false = record { reads = λ behind. no_token (Flag k.Distinct) false behind (inr (refl, refl)) }
 
