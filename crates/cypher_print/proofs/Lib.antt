@@ -1,8 +1,10 @@
+pub mod AtomsRead
 pub mod CallsRead
 pub mod ChainsRead
 pub mod EdgesRead
 pub mod ExpressionLevels
 pub mod ExpressionWords
+pub mod ExpressionsRead
 pub mod Holds
 pub mod InsideRead
 pub mod LabelsRead
