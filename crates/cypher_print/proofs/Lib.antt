@@ -14,9 +14,12 @@ pub mod NewEdgesRead
 pub mod OperatorSigns
 pub mod OperatorsRead
 pub mod Parts
+pub mod PatternsHold
 pub mod PlacedRead
 pub mod PrintLemmas
+pub mod PrintedRead
 pub mod ProjectionsRead
+pub mod QueriesHold
 pub mod QueriesRead
 pub mod ReadBack
 pub mod ReadNumbers
