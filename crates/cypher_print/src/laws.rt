@@ -1,6 +1,6 @@
 //! What later parts may rest on: how what is printed is read. Each law holds in front of any bytes that don't go on with what
 //! is printed, and says that the tokens behind it are those of these bytes.
-ghost use Rattle.std.specs.Prelude.{◌≡◌, ◌<◌, ◌+◌, ◌^◌, ℕ, true, List, [], ◌∷◌, length};
+ghost use Rattle.std.specs.Prelude.{◌≡◌, ◌<◌, ◌+◌, ◌^◌, ℕ, true, List, [], ◌∷◌, length, Ok};
 ghost use Rattle.std.specs.Fmt.{decimal};
 ghost use Rattle.cypher_syntax.specs.Bytes.{is_sign, is_long_sign};
 ghost use Rattle.cypher_syntax.specs.Lexing.{lexed_from};
@@ -14,12 +14,15 @@ ghost use Rattle.cypher_parse.specs.Expressions.{Expression};
 ghost use Rattle.cypher_parse.specs.Clauses.{Reading, Updating};
 ghost use Rattle.cypher_parse.specs.Queries.{QueryAt};
 ghost use Rattle.cypher_parse.specs.Patterns.{LabelsOrNone, Path};
+ghost use Rattle.cypher_parse.specs.Whole.{IsQuery as IsQueryOf, IsParse, IsOnly};
 ghost use Rattle.cypher_print.specs.Pieces.{written, is_word, name, schema, quoted};
 ghost use Rattle.cypher_print.specs.ReadBack.{parts_word, parts_name, parts_sign, IsReadAs, IsNamed, IsText, IsNumber, IsLeast, IsWordOf, IsSignOf};
 ghost use Rattle.cypher_print.specs.Printed.{labels};
 ghost use Rattle.cypher_print.specs.QueryText.{pattern, clause_text, update_text, query_text};
 ghost use Rattle.cypher_print.specs.QuerySentences.{IsUpdate, IsQuery};
 ghost use Rattle.cypher_print.specs.Sentences.{IsSentence, All, IsName, IsPattern, IsReading};
+
+use cypher_parse::only_the_tree;
 
 /// A printed name is read as that name, where what stands behind it doesn't go on with it.
 pub fn names_are_read_back()
@@ -114,3 +117,14 @@ pub fn queries_are_read_back()
         IsQuery (Expression m) q → parts_name behind ≡ true →
         IsSentence (QueryAt m) q (query_text q) behind }
 {}
+
+/// A printed query is read as the tree that it was printed from, where that is a text's tree: with no more tokens open at
+/// once than in that text, and so `parse` answers this tree for the printed text, unless memory was wanting.
+pub fn printing_keeps_the_tree()
+    ensures at_each_depth { (n : ℕ) (text : List ℕ) (q : AnyQuery) →
+        IsQueryOf n text q → IsQueryOf n (query_text q) q }
+    ensures parsed { (text : List ℕ) (q : AnyQuery) →
+        IsParse text (Ok q) → IsOnly (query_text q) q }
+{
+    only_the_tree();
+}
