@@ -14,6 +14,7 @@ pub mod NewEdgesRead
 pub mod OperatorSigns
 pub mod OperatorsRead
 pub mod Parts
+pub mod PartsRead
 pub mod PatternsHold
 pub mod PlacedRead
 pub mod PrintLemmas

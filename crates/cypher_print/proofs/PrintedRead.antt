@@ -1,12 +1,15 @@
 -- A text's query is the query of its printed form.
 use Rattle.std.proofs.Common.{◌≡◌, ℕ, ◌+◌, List, [], ◌++◌, length, map, None, refl, sym, ap, subst, ◌∙◌, append-nil, arith}
 use Rattle.cypher_syntax.specs.declared.token.Token.{Token}
+use Rattle.cypher_syntax.specs.declared.tree.expr.Expr.{Expr}
 use Rattle.cypher_syntax.specs.declared.tree.query.Query.{Query}
 use Rattle.cypher_syntax.specs.Lexing.{Lexed, lexed, lexed_from, after_tokens}
 use Rattle.cypher_parse.specs.Languages.{Lang, Tokens}
 use Rattle.cypher_parse.specs.Queries.{QueryAt}
 use Rattle.cypher_parse.specs.Expressions.{Expression}
 use Rattle.cypher_parse.specs.Texts.{lexeme, lexemes_in, lexemes}
+use Rattle.cypher_print.specs.Pieces.{written}
+use Rattle.cypher_print.specs.Printed.{expr}
 use Rattle.cypher_print.specs.QueryText.{query_text}
 use Rattle.cypher_print.specs.Sentences.{IsSentence}
 use Rattle.cypher_print.proofs.RealTokens.{real_lexemes}
@@ -26,6 +29,9 @@ all_of_text L a text h =
         sym (ap (lexemes_in text) (tokens ∙ ap (λ ts. record { tokens = ts; fault = None }) (append-nil x.0)) ∙ append-nil (map (lexeme text) x.0)) in
     let Q : Tokens → Type 0 = λ ts. L ts a in
     subst Q these (subst P nothing x.2)
+
+pub printed_expression : (n : ℕ) (text : List ℕ) (x : Expr) → Expression n (lexemes text) x → Expression n (lexemes (written [] (expr x 0))) x
+printed_expression n text x is = all_of_text (Expression n) x (written [] (expr x 0)) ((expressions n).holds (lexemes text) x (real_lexemes text) is [] refl)
 
 pub printed : (n : ℕ) (text : List ℕ) (q : Query) → QueryAt n (lexemes text) q → QueryAt n (lexemes (query_text q)) q
 printed n text q is =

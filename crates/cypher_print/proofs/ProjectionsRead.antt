@@ -28,7 +28,7 @@ use Rattle.cypher_print.proofs.Sentences.{one_token, no_token, Passes}
 use Rattle.cypher_print.proofs.Parts.{sign, lone}
 use Rattle.cypher_print.proofs.Reading.{Read, Sure, Apart, Word, apart_none, begins, apart_both, seq, seq_sure, after_sure, via, via_sure, rewritten, left, right, none}
 use Rattle.cypher_print.proofs.Words.{parts_too, distinct, star, order, by, desc, skip, limit, as_word}
-use Rattle.cypher_print.proofs.UpdatesRead.{a_name, an_expr, commas}
+use Rattle.cypher_print.proofs.PartsRead.{a_name, commas, an_expr, apart_count, apart_option}
 use Rattle.cypher_print.proofs.ReadingsRead.{where_read}
 
 -- ---- numbers
@@ -46,15 +46,6 @@ skip_read (Some n) is = left (via (λ ts u. (n, u, refl)) (after_sure skip (a_nu
 limit_read : (o : Option ℕ) → IsCount o → Read (Count k.Limit) o (count_text (codes " LIMIT ") o)
 limit_read None is = none
 limit_read (Some n) is = left (via (λ ts u. (n, u, refl)) (after_sure limit (a_number n is)))
-
--- a word with a space in front
-pub apart_count : (w : List ℕ) (o : Option ℕ) → Apart (count_text (32 ∷ w) o)
-apart_count w None = apart_none
-apart_count w (Some n) = begins 32 w (decimal n ∷ []) refl
-
-pub apart_option : (w : List ℕ) (o : Option Expr) → Apart (option (32 ∷ w) o)
-apart_option w None = apart_none
-apart_option w (Some x) = begins 32 w (expr x 0) refl
 
 -- ---- DISTINCT and `*`
 
@@ -158,6 +149,5 @@ module _ (E : Lang Expr) where
   passed p is =
       let of = is.0 in
       let x = parts_read (WithItem E) (IsWithItem E) (λ i. with_item i.expr i.name) p of.0 of.1 of.2 of.3 in
-      let y : Read (Where E) p.filter (option (codes " WHERE ") p.filter) = record { reads = λ behind h. where_read E p.filter behind is.1 h } in
       let parts : Parts = (p.distinct, ((p.star, p.items), (p.sort, (p.skip, p.limit)))) in
-      rewritten (ap (written []) (as_printed p)) (via (λ ts u. ((parts, p.filter), u, refl)) (seq x y (apart_option (codes "WHERE ") p.filter)))
+      rewritten (ap (written []) (as_printed p)) (via (λ ts u. ((parts, p.filter), u, refl)) (seq x (where_read E p.filter is.1) (apart_option (codes "WHERE ") p.filter)))

@@ -18,7 +18,7 @@ use Rattle.cypher_parse.specs.Clauses.{match_of, unwind_of, delete_of, Where, Ma
 use Rattle.cypher_parse.specs.Projections.{item_of, sort_of, Parts, projection_of, Count, SortItem, Parted, ReturnItem, WithItem, Returned, Passed}
 use Rattle.cypher_parse.specs.Queries.{stage_of, Last, query_of, Instants, Part, Return, Ending, Whole}
 use Rattle.cypher_print.specs.Sentences.{All, IsName, IsNameOrNone, IsReadIn, IsPattern, IsFilter, IsMatch, IsUnwind, IsReading}
-use Rattle.cypher_print.specs.QuerySentences.{AllSome, IsSetItem, IsRemoveItem, IsUpdate, IsUpdating, IsReturnItem, IsWithItem, IsStarOr, IsCount, IsProjection, IsReturned, IsPassed, AreClauses, IsStage, IsEnd, IsEnding, IsTime, IsQuery}
+use Rattle.cypher_print.specs.QuerySentences.{AllSome, IsSetItem, IsRemoveItem, IsUpdate, IsUpdating, IsReturnItem, IsWithItem, IsStarOr, IsCount, IsProjection, IsReturned, IsPassed, AreClauses, IsStage, IsEnd, IsEnding, IsTime, IsWholeQuery}
 use Rattle.cypher_print.proofs.Holds.{Holds, weaker, anything, of_seq, of_map, of_after, of_before, of_alt, of_opt, of_many, of_some, of_listed, of_number}
 use Rattle.cypher_print.proofs.PatternsHold.{name, schema, pattern, new_pattern}
 
@@ -129,6 +129,6 @@ module _ (E : Lang Expr) (x : Holds E (IsReadIn E)) where
       (of_map (λ p. (p.0 ++ p.1.0, p.1.1)) IsLast (λ p h. (p.0, p.1.0, (refl, h.0, h.1.0.1), an_end p.1.0 p.1.1 h.1.0.0 h.1.1))
       (of_seq (of_many reading) (of_seq (of_some updating) (of_opt None tt (of_map Some IsReturnedOrNone (λ p h. h) return)))))
 
-  pub whole : Holds (Whole E) (IsQuery E)
+  pub whole : Holds (Whole E) (IsWholeQuery E)
   unfolding Whole
-  whole = of_map query_of (IsQuery E) (λ p h. (h.0.0, h.0.1, h.1.0)) (of_seq (of_seq (of_many part) ending) (of_seq (of_opt time.None tt instants) anything))
+  whole = of_map query_of (IsWholeQuery E) (λ p h. (h.0.0, h.0.1, h.1.0)) (of_seq (of_seq (of_many part) ending) (of_seq (of_opt time.None tt instants) anything))

@@ -20,12 +20,12 @@ use Rattle.cypher_print.specs.Pieces.{Pieces, written}
 use Rattle.cypher_print.specs.QueryText.{clause_text, clauses_text, projection, stage_text, returns_text, time_text, query_pieces}
 use Rattle.cypher_print.specs.ReadBack.{parts_name}
 use Rattle.cypher_print.specs.Sentences.{IsSentence, All, IsReading}
-use Rattle.cypher_print.specs.QuerySentences.{IsUpdating, AreClauses, IsStage, IsEnd, IsEnding, IsTime, IsQuery}
+use Rattle.cypher_print.specs.QuerySentences.{IsUpdating, AreClauses, IsStage, IsEnd, IsEnding, IsTime, IsWholeQuery}
 use Rattle.cypher_print.proofs.Sentences.{no_token}
 use Rattle.cypher_print.proofs.Parts.{written-both}
 use Rattle.cypher_print.proofs.Reading.{Read, Sure, begins, seq, seq_sure, seq_all, after_sure, after_all, via, via_sure, rewritten, rewritten_sure, many_sure, none_sure}
 use Rattle.cypher_print.proofs.Words.{trailing, with_word, return_word, tt_word, snapshot, between_word, and_word, semicolon}
-use Rattle.cypher_print.proofs.ReadingsRead.{reading}
+use Rattle.cypher_print.proofs.ReadingsRead.{clause_read}
 use Rattle.cypher_print.proofs.UpdatesRead.{updating}
 use Rattle.cypher_print.proofs.ProjectionsRead.{a_number, returned, passed}
 
@@ -50,7 +50,7 @@ module _ (E : Lang Expr) where
   -- ---- clauses
 
   reading_clauses : (cs : List Clause) → All (IsReading E) cs → Sure (Many (Reading E)) cs (clauses_text cs)
-  reading_clauses cs are = many_sure (λ c. clause_text c ++ codes " " ∷ []) (IsReading E) (λ c is. spaced_behind {p = clause_text c} (record { reads = λ behind h. reading E c behind is h })) cs are
+  reading_clauses cs are = many_sure (λ c. clause_text c ++ codes " " ∷ []) (IsReading E) (λ c is. spaced_behind (clause_read E c is)) cs are
 
   update_read : (c : Clause) → IsUpdating E c → Sure (Updating E) c (clause_text c ++ codes " " ∷ [])
   update_read (clause.Match m) is = absurd is
@@ -105,7 +105,7 @@ module _ (E : Lang Expr) where
 
   -- ---- the whole
 
-  pub query_read : (q : Query) → IsQuery E q → Read (Whole E) q (query_pieces q)
+  pub query_read : (q : Query) → IsWholeQuery E q → Read (Whole E) q (query_pieces q)
   unfolding Whole
   query_read q is =
       let S = flat_map stage_text q.stages in

@@ -31,75 +31,11 @@ use Rattle.cypher_print.proofs.ReadBack.{split}
 use Rattle.cypher_print.proofs.Sentences.{no_token, Passes}
 use Rattle.cypher_print.proofs.Parts.{written-behind, written-both, sign, colon, comma}
 use Rattle.cypher_print.proofs.Reading.{Read, Sure, Token, Apart, begins, turn, seq, seq_sure, after_sure, via, via_sure, mapped, regrouped, left, right, many, many_apart, listed}
-use Rattle.cypher_print.proofs.Words.{trailing, create, set as set_word, remove as remove_word, detach, delete, equal}
+use Rattle.cypher_print.proofs.Words.{create, set as set_word, remove as remove_word, detach, delete, equal}
 use Rattle.cypher_print.proofs.VerticesRead.{name_read}
 use Rattle.cypher_print.proofs.LabelsRead.{Label, schema_name}
+use Rattle.cypher_print.proofs.PartsRead.{a_name, a_schema, some_labels, labels_apart, dotless_schema, dotless_both, after_point, commas, an_expr}
 use Rattle.cypher_print.proofs.NewEdgesRead.{new_pattern}
-
--- ---- names and labels
-
-pub a_name : (n : List ℕ) → IsName n → Read Name n (name n)
-a_name n is = record { reads = λ behind h. name_read n behind is h }
-
-pub a_schema : (n : List ℕ) → IsName n → Read Schema n (schema n)
-a_schema n is = record { reads = λ behind h. schema_name n behind is h }
-
-colon_token : Token (k.Colon ∷ []) (codes ":" ∷ [])
-colon_token = record { token = record { reads = λ behind. colon behind } }
-
-label : (n : List ℕ) → IsName n → Read Label n (codes ":" ∷ schema n)
-label n is = after_sure colon_token (a_schema n is)
-
-pub labels_apart : (names : List (List ℕ)) → All IsName names → Apart (labels names)
-labels_apart names are = many_apart (λ n. codes ":" ∷ schema n) IsName (λ n is. begins 58 [] (schema n) refl) names are
-
-pub some_labels : (names : List (List ℕ)) → AllSome IsName names → Read Labels names (labels names)
-some_labels [] are = absurd (omega (arith, are.0))
-some_labels (n ∷ names) are =
-    mapped (λ p. p.0 ∷ p.1)
-    (seq (label n are.1.0) (many {L = Label} (λ n. codes ":" ∷ schema n) IsName label (λ n is. begins 58 [] (schema n) refl) names are.1.1) (labels_apart names are.1.1))
-
--- ---- points
-
--- a point in front of them is one sign
-pub record Dotless (ps : Pieces) : Type 0 where
-  pub parts : (behind : List ℕ) → parts_sign 46 (written [] ps ++ behind) ≡ true
-
-no_point : (b : ℕ) → begins_word b ≡ true → is_long_sign 46 b ≡ false
-no_point b h = grind (arith, nat_tests)
-
-dotless_by : (c : Bool) (n : List ℕ) (behind : List ℕ) → is_word n ≡ c → parts_sign 46 (written [] (cond c (n ∷ []) (quoted 96 n)) ++ behind) ≡ true
-dotless_by false n behind is = ap (λ ys. parts_sign 46 (ys ++ behind)) (written-behind (96 ∷ []) (flat_map (spelled 96) n ∷ (96 ∷ []) ∷ []))
-dotless_by true [] behind is = absurd (false≢true is)
-dotless_by true (b ∷ bytes) behind is = rw (no_point b (begins b bytes is)) refl
-  where
-    begins : (b : ℕ) (bytes : List ℕ) → is_word (b ∷ bytes) ≡ true → begins_word b ≡ true
-    begins b bytes h = split (begins_word b ≡ true) (begins_word b) (λ e. e) (λ e. absurd (false≢true (sym (rw e refl) ∙ h)))
-
-pub dotless_schema : (n : List ℕ) → Dotless (schema n)
-dotless_schema n = record { parts = λ behind. dotless_by (is_word n) n behind refl }
-
-pub dotless_both : {p : Pieces} (q : Pieces) → Dotless p → Dotless (p ++ q)
-dotless_both {p = p} q x = record { parts = λ behind. ap (λ ys. parts_sign 46 (ys ++ behind)) (written-both p q) ∙ ap (parts_sign 46) (append_assoc (written [] p) (written [] q) behind) ∙ x.parts (written [] q ++ behind) }
-
-point_kind : or_unknown (kind_of (46 ∷ [])) ≡ k.Point
-unfolding kind_of
-point_kind = refl
-
-pub after_point : {A : Type 0} {L : Lang A} {a : A} {p : Pieces} → Dotless p → Read L a p → Read (After (k.Point ∷ []) L) a (codes "." ∷ p)
-after_point {L = L} {a = a} {p = p} o x =
-    record { reads = λ behind h. turn (Passes (k.Point ∷ [])) L (After (k.Point ∷ []) L) tt a a (λ ts us u v. ((u.0, a), (ts, us, refl, (u.1, u.2), v), refl)) (codes "." ∷ []) p behind (sign 46 k.Point refl point_kind refl (written [] p ++ behind) (o.parts behind)) (x.reads behind h) }
-
-pub comma_token : Token (k.Comma ∷ []) (codes ", " ∷ [])
-comma_token = record { token = record { reads = λ behind. comma_sentence behind } }
-  where
-    comma_sentence : (behind : List ℕ) → IsSentence (Passes (k.Comma ∷ [])) tt (codes ", ") behind
-    comma_sentence behind = trailing (Passes (k.Comma ∷ [])) tt (44 ∷ []) behind (comma (32 ∷ behind))
-
--- one or more, with commas between
-pub commas : {A : Type 0} {L : Lang A} (f : A → Pieces) (Good : A → Type 0) → ((x : A) → Good x → Read L x (f x)) → (xs : List A) → AllSome Good xs → Read (Listed (k.Comma ∷ []) L) xs (joined (codes ", ") f xs)
-commas f Good each [] are = absurd (omega (arith, are.0))
-commas f Good each (x ∷ xs) are = listed (codes ", ") f Good comma_token (λ ps. begins 44 (32 ∷ []) ps refl) each x xs are.1
 
 -- ---- items and clauses
 
@@ -113,15 +49,12 @@ detach_read true = via_sure (λ ts u. inl (u.0, (u.1, u.2), refl)) detach.token
 detach_read false = record { reads = λ behind. no_token (Flag k.Detach) false behind (inr (refl, refl)) }
 
 module _ (E : Lang Expr) where
-  pub an_expr : (x : Expr) → IsReadIn E x → Read E x (expr x 0)
-  an_expr x is = record { reads = is }
-
   set_item_read : (i : SetItem) → IsSetItem E i → Read (Set E) i (set_item i)
   unfolding Set
   set_item_read (set.Prop n key x) is =
       left (via (λ ts u. ((n, (key, x)), u, refl)) (regrouped (name n) (codes "." ∷ schema key) (codes " = " ∷ expr x 0)
       (seq (a_name n is.0)
-      (after_point (dotless_both (codes " = " ∷ expr x 0) (dotless_schema key)) (seq (a_schema key is.1) (after_sure equal (an_expr x is.2)) (begins 32 (61 ∷ 32 ∷ []) (expr x 0) refl)))
+      (after_point (dotless_both (codes " = " ∷ expr x 0) (dotless_schema key)) (seq (a_schema key is.1) (after_sure equal (an_expr E x is.2)) (begins 32 (61 ∷ 32 ∷ []) (expr x 0) refl)))
       (begins 46 [] (schema key ++ codes " = " ∷ expr x 0) refl))))
   set_item_read (set.Labels n ls) is = right (via (λ ts u. ((n, ls), u, refl)) (seq (a_name n is.0) (some_labels ls is.1) (labels_apart ls is.1.1)))
 

@@ -84,6 +84,22 @@ spaced_long_sign a b kind h is same = record {
 
 -- ---- those of clauses
 
+pub optional_token : Token (k.Optional ∷ []) (codes "OPTIONAL " ∷ [])
+unfolding kind_of
+optional_token = front (codes "OPTIONAL") k.Optional (refl, refl, refl)
+
+pub match_word : Token (k.Match ∷ []) (codes "MATCH " ∷ [])
+unfolding kind_of
+match_word = front (codes "MATCH") k.Match (refl, refl, refl)
+
+pub unwind_word : Token (k.Unwind ∷ []) (codes "UNWIND " ∷ [])
+unfolding kind_of
+unwind_word = front (codes "UNWIND") k.Unwind (refl, refl, refl)
+
+pub where_word : Token (k.Where ∷ []) (codes " WHERE " ∷ [])
+unfolding kind_of
+where_word = between (codes "WHERE") k.Where (refl, refl, refl)
+
 pub create : Token (k.Create ∷ []) (codes "CREATE " ∷ [])
 unfolding kind_of
 create = front (codes "CREATE") k.Create (refl, refl, refl)

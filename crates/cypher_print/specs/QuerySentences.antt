@@ -124,5 +124,5 @@ IsTime time.None = Unit {0}
 IsTime (time.Snapshot t) = IsSmall t
 IsTime (time.Between t u) = IsSmall t × IsSmall u
 
-abbrev pub IsQuery : Lang Expr → Query → Type 0
-IsQuery E q = All (IsStage E) q.stages × IsEnding E q.clauses q.returns × IsTime q.time
+abbrev pub IsWholeQuery : Lang Expr → Query → Type 0
+IsWholeQuery E q = All (IsStage E) q.stages × IsEnding E q.clauses q.returns × IsTime q.time

@@ -4,6 +4,7 @@ ghost use Rattle.std.specs.Prelude.{◌≡◌, ◌<◌, ◌+◌, ◌^◌, ℕ, t
 ghost use Rattle.std.specs.Fmt.{decimal};
 ghost use Rattle.cypher_syntax.specs.Bytes.{is_sign, is_long_sign};
 ghost use Rattle.cypher_syntax.specs.Lexing.{lexed_from};
+ghost use Rattle.cypher_syntax.specs.declared.tree.expr.Expr.{Expr as AnyExpr};
 ghost use Rattle.cypher_syntax.specs.declared.tree.pattern.Pattern.{Pattern as AnyPattern};
 ghost use Rattle.cypher_syntax.specs.declared.tree.clause.Clause.{Clause as AnyClause};
 ghost use Rattle.cypher_syntax.specs.declared.tree.clause.Clause.TheVariants as clause;
@@ -14,12 +15,13 @@ ghost use Rattle.cypher_parse.specs.Expressions.{Expression};
 ghost use Rattle.cypher_parse.specs.Clauses.{Reading, Updating};
 ghost use Rattle.cypher_parse.specs.Queries.{QueryAt};
 ghost use Rattle.cypher_parse.specs.Patterns.{LabelsOrNone, Path};
-ghost use Rattle.cypher_parse.specs.Whole.{IsQuery as IsQueryOf, IsParse, IsOnly};
+ghost use Rattle.cypher_parse.specs.Texts.{lexemes};
+ghost use Rattle.cypher_parse.specs.Whole.{IsQuery, IsParse, IsOnly};
 ghost use Rattle.cypher_print.specs.Pieces.{written, is_word, name, schema, quoted};
 ghost use Rattle.cypher_print.specs.ReadBack.{parts_word, parts_name, parts_sign, IsReadAs, IsNamed, IsText, IsNumber, IsLeast, IsWordOf, IsSignOf};
-ghost use Rattle.cypher_print.specs.Printed.{labels};
+ghost use Rattle.cypher_print.specs.Printed.{labels, expr};
 ghost use Rattle.cypher_print.specs.QueryText.{pattern, clause_text, update_text, query_text};
-ghost use Rattle.cypher_print.specs.QuerySentences.{IsUpdate, IsQuery};
+ghost use Rattle.cypher_print.specs.QuerySentences.{IsUpdate, IsWholeQuery};
 ghost use Rattle.cypher_print.specs.Sentences.{IsSentence, All, IsName, IsPattern, IsReading};
 
 use cypher_parse::only_the_tree;
@@ -114,15 +116,21 @@ pub fn updates_are_read_back()
 /// have an element, and the same holds of the expressions in it.
 pub fn queries_are_read_back()
     ensures { (m : ℕ) (q : AnyQuery) (behind : List ℕ) →
-        IsQuery (Expression m) q → parts_name behind ≡ true →
+        IsWholeQuery (Expression m) q → parts_name behind ≡ true →
         IsSentence (QueryAt m) q (query_text q) behind }
+{}
+
+/// A printed expression is read as that expression, where that is a text's, with no more tokens open at once than there.
+pub fn printing_keeps_expressions()
+    ensures { (n : ℕ) (text : List ℕ) (x : AnyExpr) →
+        Expression n (lexemes text) x → Expression n (lexemes (written [] (expr x 0))) x }
 {}
 
 /// A printed query is read as the tree that it was printed from, where that is a text's tree: with no more tokens open at
 /// once than in that text, and so `parse` answers this tree for the printed text, unless memory was wanting.
 pub fn printing_keeps_the_tree()
     ensures at_each_depth { (n : ℕ) (text : List ℕ) (q : AnyQuery) →
-        IsQueryOf n text q → IsQueryOf n (query_text q) q }
+        IsQuery n text q → IsQuery n (query_text q) q }
     ensures parsed { (text : List ℕ) (q : AnyQuery) →
         IsParse text (Ok q) → IsOnly (query_text q) q }
 {
