@@ -1,12 +1,12 @@
 -- Printed expressions that stand alone are read as these expressions.
-use Rattle.std.proofs.Common.{◌≡◌, ◌⊎◌, inl, inr, ℕ, suc, ◌<◌, ◌≤◌, true, List, [], ◌∷◌, ◌++◌, length, codes, Option, Some, None, refl, sym, ap, subst, ◌∙◌, append_assoc, arith}
+use Rattle.std.proofs.Common.{◌≡◌, inl, inr, ℕ, suc, ◌<◌, ◌≤◌, List, [], ◌∷◌, ◌++◌, length, codes, Option, Some, None, refl, sym, ap, subst, ◌∙◌, append_assoc, arith}
 use Rattle.std.specs.List.{flat_map}
 use Rattle.cypher_syntax.specs.declared.tree.expr.Expr.{Expr}
 use Rattle.cypher_syntax.specs.declared.tree.expr.Expr.TheVariants as tree
 use Rattle.cypher_parse.specs.declared.kind.Kind.TheVariants as k
 use Rattle.cypher_parse.specs.declared.kinds.TheConstants.{PLAIN_NAMES}
-use Rattle.cypher_parse.specs.Languages.{Tokens, Lang, Seq, Map, After, Before, Alt, Opt, Some1, Listed}
-use Rattle.cypher_parse.specs.Expressions.{Inside, cased, Elements, When, Cases, Atom, Or, At}
+use Rattle.cypher_parse.specs.Languages.{Lang, Seq, Map, After, Before, Opt, Some1, Listed}
+use Rattle.cypher_parse.specs.Expressions.{Inside, cased, Elements, Cases, Atom, Or, At}
 use Rattle.cypher_print.specs.Pieces.{Pieces, written}
 use Rattle.cypher_print.specs.Printed.{level_at, joined, expr, option, branch}
 use Rattle.cypher_print.specs.Sentences.{IsSentence, All}
@@ -14,7 +14,7 @@ use Rattle.cypher_print.specs.QuerySentences.{AllSome}
 use Rattle.cypher_print.proofs.PrintLemmas.{print-List, print-Case}
 use Rattle.cypher_print.proofs.Parts.{spaced, written-behind}
 use Rattle.cypher_print.proofs.Holds.{Holds, weaker, of_seq, of_map, of_after, of_before, of_alt, of_opt, of_some, of_listed, of_name}
-use Rattle.cypher_print.proofs.Reading.{Read, Sure, Apart, of_sure, apart_none, begins, apart_both, seq, after, after_sure, before, before_read, via, mapped, left, none, rewritten, many, many_apart}
+use Rattle.cypher_print.proofs.Reading.{Read, Apart, of_sure, begins, apart_both, seq, after, after_sure, before, before_read, via, mapped, left, none, many, many_apart}
 use Rattle.cypher_print.proofs.PartsRead.{commas, apart_option}
 use Rattle.cypher_print.proofs.ExpressionWords.{case_word, when, then, else_word, end}
 use Rattle.cypher_print.proofs.ExpressionLevels.{Level}
@@ -29,7 +29,7 @@ use Rattle.cypher_print.proofs.CallsRead.{calls_ready}
 space_in_front : {A : Type 0} {L : Lang A} {a : A} {ps : Pieces} → Read L a ps → Read L a (codes " " ∷ ps)
 space_in_front {L = L} {a = a} {ps = ps} r = record {
   reads = λ behind h. (let P : List ℕ → Type 0 = λ bytes. IsSentence L a bytes behind in
-    subst P (sym (written-behind (32 ∷ []) ps)) (spaced L a (written [] ps) behind (r.reads behind h)));
+      subst P (sym (written-behind (32 ∷ []) ps)) (spaced L a (written [] ps) behind (r.reads behind h)));
 }
 
 abbrev IsWithin : ℕ → Option Expr → Type 0

@@ -1,7 +1,6 @@
 -- Printed calls of functions are read as these calls.
-use Rattle.std.proofs.Common.{◌≡◌, ◌⊎◌, inl, inr, ℕ, suc, ◌<◌, ◌≤◌, Bool, true, false, List, [], ◌∷◌, ◌++◌, codes, Option, Some, None, refl, sym, ap, ◌∙◌, subst, append-nil, arith}
+use Rattle.std.proofs.Common.{◌≡◌, inr, ℕ, suc, ◌<◌, ◌≤◌, Bool, true, List, [], ◌∷◌, ◌++◌, codes, Option, Some, None, refl, sym, ap, ◌∙◌, append-nil, arith}
 use Rattle.std.proofs.lemmas.Bool.{false≢true}
-use Rattle.std.specs.List.{flat_map}
 use Rattle.cypher_syntax.specs.declared.tree.expr.Expr.{Expr}
 use Rattle.cypher_syntax.specs.declared.tree.expr.Expr.TheVariants as tree
 use Rattle.cypher_syntax.specs.declared.tree.operators.Fun.{Fun}
@@ -14,11 +13,10 @@ use Rattle.cypher_parse.specs.Kinds.{number, member}
 use Rattle.cypher_parse.specs.Spelling.{kind_of}
 use Rattle.cypher_parse.specs.Texts.{or_name, lexeme_of}
 use Rattle.cypher_parse.specs.Words.{name_in, with_name, function_of, function_for, aggregate_for}
-use Rattle.cypher_parse.specs.Languages.{Tokens, Lang, Valued, One, Seq, Map, After, Before, Empty, Alt, Listed}
-use Rattle.cypher_parse.specs.Expressions.{Inside, called, counted, Flag, Called, Operand, Call, Or, Atom, At}
+use Rattle.cypher_parse.specs.Languages.{Lang, Valued, Map, After, Before, Empty, Alt}
+use Rattle.cypher_parse.specs.Expressions.{Inside, called, counted, Called, Operand, Call, Or, Atom, At}
 use Rattle.cypher_print.specs.Pieces.{Pieces, written, is_word, fun_text, agg_text}
 use Rattle.cypher_print.specs.Printed.{level_at, joined, distinct_word, expr}
-use Rattle.cypher_print.specs.Sentences.{All, IsName}
 use Rattle.cypher_print.specs.QuerySentences.{AllSome}
 use Rattle.cypher_print.proofs.PrintLemmas.{print-Call, print-CountRows, print-Agg}
 use Rattle.cypher_print.proofs.ReadSigns.{words}
@@ -44,9 +42,13 @@ named_so kind other o w e f = ap (with_name kind) f ∙ ap (λ kind. Some (kind,
 function_word : (kinds : List Kind) (kind : Kind) (w : List ℕ) → IsWordAmong kinds kind w → Read (Valued kinds function_of) (kind, w) (w ∷ [])
 function_word kinds kind w is = record {
   reads = λ behind h. (let r = words w behind is.0 (parts_too behind h) in
-    one_token (Valued kinds function_of) (kind, w) w behind (r.0, r.1, λ place. (let t = lexeme_of r.0 w place in
-      let same = (r.2 place).0 ∙ is.1 in
-      (t, refl, ap (λ j. member (number j) kinds) same ∙ is.2, named_so t.kind kind (name_in t.payload) w same (r.2 place).1))));
+      one_token (Valued kinds function_of) (kind, w) w behind (
+        r.0,
+        r.1,
+        λ place. (let t = lexeme_of r.0 w place in
+            let same = (r.2 place).0 ∙ is.1 in
+            (t, refl, ap (λ j. member (number j) kinds) same ∙ is.2, named_so t.kind kind (name_in t.payload) w same (r.2 place).1)),
+      ));
 }
 
 single_word : (kind : Kind) → member (number kind) SINGLE_FUNCTIONS ≡ true → IsWordAmong SINGLE_FUNCTIONS kind (fun_text (function_for kind))

@@ -1,5 +1,5 @@
 -- Printed edges and patterns are read as these edges and patterns.
-use Rattle.std.proofs.Common.{◌≡◌, ◌⊎◌, inl, inr, ℕ, true, false, Bool, List, [], ◌∷◌, ◌++◌, codes, Option, Some, None, refl, sym, ap, subst, ◌∙◌, append_assoc}
+use Rattle.std.proofs.Common.{◌≡◌, inl, inr, ℕ, true, false, Bool, List, [], ◌∷◌, ◌++◌, codes, Option, refl, sym, ap, subst, ◌∙◌, append_assoc}
 use Rattle.std.specs.List.{flat_map}
 use Rattle.cypher_syntax.specs.declared.tree.expr.Expr.{Expr}
 use Rattle.cypher_syntax.specs.declared.tree.pattern.Arrow.{Arrow}
@@ -8,11 +8,10 @@ use Rattle.cypher_syntax.specs.declared.tree.pattern.EdgePattern.{EdgePattern}
 use Rattle.cypher_syntax.specs.declared.tree.pattern.NodePattern.{NodePattern}
 use Rattle.cypher_syntax.specs.declared.tree.pattern.Pattern.{Pattern}
 use Rattle.cypher_parse.specs.declared.kind.Kind.TheVariants as k
-use Rattle.cypher_parse.specs.Languages.{Tokens, Lang, Seq, Map, After, Before, Opt, Many}
+use Rattle.cypher_parse.specs.Languages.{Lang, Seq, Map, After, Before, Opt, Many}
 use Rattle.cypher_parse.specs.Expressions.{Schema, Flag}
 use Rattle.cypher_parse.specs.Patterns.{Properties, Details, edge_of, right_or_neither, NameOrNone, Kinds, MapOrNone, Inner, Edge, Node, Path}
 use Rattle.cypher_print.specs.Pieces.{Pieces, written, schema}
-use Rattle.cypher_print.specs.Printed.{joined}
 use Rattle.cypher_print.specs.QueryText.{optional_name, kinds, map_text, before_edge, behind_edge, edge, node, pattern}
 use Rattle.cypher_print.specs.ReadBack.{parts_name, parts_sign}
 use Rattle.cypher_print.specs.Sentences.{IsSentence, All, IsName, IsNameOrNone, IsMapOrNone, IsVertex, IsEdge, IsPattern}

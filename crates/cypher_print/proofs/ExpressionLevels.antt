@@ -1,5 +1,5 @@
 -- The languages of expressions by how tightly their operators bind: each tighter one is a part of the looser ones.
-use Rattle.std.proofs.Common.{◌≡◌, ◌⊎◌, inl, inr, ℕ, zero, suc, ◌+◌, ◌-◌, ◌≤◌, List, [], ◌∷◌, ◌++◌, refl, sym, subst, append-nil, arith}
+use Rattle.std.proofs.Common.{◌≡◌, inr, ℕ, zero, suc, ◌+◌, ◌-◌, ◌≤◌, [], ◌++◌, refl, sym, subst, append-nil, arith}
 use Rattle.cypher_syntax.specs.declared.tree.expr.Expr.{Expr}
 use Rattle.cypher_parse.specs.Languages.{Tokens, Lang}
 use Rattle.cypher_parse.specs.Expressions.{Inside, Or, Xor, And, Not, Comparison, Predicate, Sum, Product, Unary, Post, Atom}

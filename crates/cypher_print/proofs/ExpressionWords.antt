@@ -1,5 +1,5 @@
 -- Keywords of expressions as printed pieces.
-use Rattle.std.proofs.Common.{◌≡◌, [], ◌∷◌, codes, refl}
+use Rattle.std.proofs.Common.{[], ◌∷◌, codes, refl}
 use Rattle.cypher_parse.specs.declared.kind.Kind.TheVariants as k
 use Rattle.cypher_parse.specs.Spelling.{kind_of}
 use Rattle.cypher_print.proofs.Reading.{Token, Word}

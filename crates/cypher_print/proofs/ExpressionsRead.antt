@@ -1,8 +1,8 @@
 -- A printed expression is read as that expression.
-use Rattle.std.proofs.Common.{◌≡◌, ℕ, zero, suc, ◌≤◌, true, arith}
+use Rattle.std.proofs.Common.{ℕ, zero, suc, ◌≤◌, arith}
 use Rattle.std.proofs.lemmas.Bool.{false≢true}
 use Rattle.cypher_syntax.specs.declared.tree.expr.Expr.{Expr}
-use Rattle.cypher_parse.specs.Expressions.{Inside, Comparison, Not, Or, At, Expression}
+use Rattle.cypher_parse.specs.Expressions.{Inside, Not, Or, At, Expression}
 use Rattle.cypher_print.specs.Sentences.{IsReadIn}
 use Rattle.cypher_print.proofs.Holds.{Holds, weaker}
 use Rattle.cypher_print.proofs.PlacedRead.{Ready, at_level}

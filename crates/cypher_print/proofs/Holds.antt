@@ -1,14 +1,13 @@
 -- What holds of the value of each sentence whose tokens are those of a text.
-use Rattle.std.proofs.Common.{◌≡◌, ◌⊎◌, inl, inr, ℕ, ℤ, pos, ◌<◌, ◌^◌, unsigned_abs, true, List, [], ◌∷◌, ◌++◌, length, Option, Some, None, refl, sym, ap, subst, ◌∙◌, arith}
+use Rattle.std.proofs.Common.{◌≡◌, inl, inr, ℕ, ℤ, pos, ◌<◌, unsigned_abs, true, List, [], ◌∷◌, ◌++◌, length, Some, sym, ap, subst, ◌∙◌, arith}
 use Rattle.cypher_parse.specs.declared.kind.Kind.{Kind}
-use Rattle.cypher_parse.specs.declared.kinds.TheConstants.{NAMES, SCHEMA_NAMES}
 use Rattle.cypher_parse.specs.declared.lexeme.Lexeme.{Lexeme}
 use Rattle.cypher_parse.specs.declared.lexeme.Payload.{Payload}
 use Rattle.cypher_parse.specs.declared.lexeme.Payload.TheVariants as payload
 use Rattle.cypher_parse.specs.Kinds.{number, member}
-use Rattle.cypher_parse.specs.Words.{name_in, name_of, integer_in, integer_of, with_name, function_of}
-use Rattle.cypher_parse.specs.Languages.{Tokens, Lang, One, Valued, Seq, Map, After, Before, Empty, Alt, Opt, Many, Chain, Some1, Listed}
-use Rattle.cypher_parse.specs.Expressions.{Name, Schema, Integer}
+use Rattle.cypher_parse.specs.Words.{name_in, name_of, integer_in, with_name, function_of}
+use Rattle.cypher_parse.specs.Languages.{Tokens, Lang, Valued, Seq, Map, After, Before, Empty, Alt, Opt, Many, Chain, Some1, Listed}
+use Rattle.cypher_parse.specs.Expressions.{Integer}
 use Rattle.cypher_parse.specs.Projections.{Number}
 use Rattle.cypher_print.specs.Sentences.{All, IsName}
 use Rattle.cypher_print.specs.QuerySentences.{AllSome, IsSmall}

@@ -1,5 +1,5 @@
 -- What is known of the expressions inside one more opening token.
-use Rattle.std.proofs.Common.{◌≡◌, ℕ, zero, suc, ◌<◌, ◌≤◌, Bool, true, false, List, refl, sym, ap, subst, arith}
+use Rattle.std.proofs.Common.{◌≡◌, ℕ, zero, suc, ◌<◌, ◌≤◌, Bool, true, false, List, refl, sym, subst, arith}
 use Rattle.cypher_syntax.specs.declared.tree.expr.Expr.{Expr}
 use Rattle.cypher_parse.specs.declared.kind.Kind.{Kind}
 use Rattle.cypher_parse.specs.Languages.{Lang, Enter}

@@ -1,21 +1,20 @@
 -- Printed literals are read as these literals.
-use Rattle.std.proofs.Common.{◌≡◌, ◌⊎◌, inl, inr, ℕ, ℤ, pos, Bool, true, false, cond, nat_lt, List, [], ◌∷◌, codes, refl, sym, ap, ◌∙◌, subst, arith}
+use Rattle.std.proofs.Common.{◌≡◌, inl, inr, ℕ, ℤ, pos, true, false, cond, nat_lt, List, [], ◌∷◌, codes, refl, sym, ap, ◌∙◌, subst, arith}
 use Rattle.std.specs.Prelude.{int_lt}
 use Rattle.std.specs.Fmt.{decimal}
 use Rattle.std.proofs.lemmas.Bool.Decides.{nat_tests}
 use Rattle.graph_value.specs.declared.value.Value.{Value, out-Value}
 use Rattle.graph_value.specs.declared.value.Value.TheOpen.{Value-F}
 use Rattle.graph_value.specs.declared.value.Value.TheVariants as value
-use Rattle.cypher_syntax.specs.declared.tree.expr.Expr.{Expr}
 use Rattle.cypher_syntax.specs.declared.tree.expr.Expr.TheVariants as tree
 use Rattle.cypher_parse.specs.declared.kind.Kind.TheVariants as k
 use Rattle.cypher_parse.specs.Kinds.{number, member}
 use Rattle.cypher_parse.specs.Texts.{lexeme_of}
 use Rattle.cypher_parse.specs.Words.{text_of}
-use Rattle.cypher_parse.specs.Languages.{Lang, Valued, One, Map, Alt}
-use Rattle.cypher_parse.specs.Expressions.{Integer, Literal, Atom, At}
+use Rattle.cypher_parse.specs.Languages.{Lang, Valued}
+use Rattle.cypher_parse.specs.Expressions.{Integer, Literal, Atom}
 use Rattle.cypher_print.specs.Pieces.{Pieces, written, quoted, value_level}
-use Rattle.cypher_print.specs.Printed.{level_at, is_signed, expr}
+use Rattle.cypher_print.specs.Printed.{level_at, is_signed}
 use Rattle.cypher_print.specs.QuerySentences.{IsSmall}
 use Rattle.cypher_print.proofs.PrintLemmas.{print-Lit}
 use Rattle.cypher_print.proofs.ReadBack.{texts}
@@ -31,7 +30,7 @@ use Rattle.cypher_print.proofs.InsideRead.{ready_plain}
 an_integer : (n : ℕ) → IsSmall n → Read Integer (pos n) (decimal n ∷ [])
 an_integer n small = record {
   reads = λ behind h. (let r = numbers n behind small (parts_too behind h) in
-    one_token Integer (pos n) (decimal n) behind (r.0, r.1, λ place. (lexeme_of r.0 (decimal n) place, refl, ap (λ j. member (number j) (k.Integer ∷ [])) (r.2 place).0, (r.2 place).1)));
+      one_token Integer (pos n) (decimal n) behind (r.0, r.1, λ place. (lexeme_of r.0 (decimal n) place, refl, ap (λ j. member (number j) (k.Integer ∷ [])) (r.2 place).0, (r.2 place).1)));
 }
 
 abbrev Quoted : Lang (List ℕ)
@@ -40,7 +39,7 @@ Quoted = Valued (k.Quote ∷ []) text_of
 a_text : (text : List ℕ) → Read Quoted text (quoted 39 text)
 a_text text = record {
   reads = λ behind h. (let r = texts text behind in
-    one_token Quoted text (written [] (quoted 39 text)) behind (r.0, r.1, λ place. (lexeme_of r.0 (written [] (quoted 39 text)) place, refl, ap (λ j. member (number j) (k.Quote ∷ [])) (r.2 place).0, (r.2 place).1)));
+      one_token Quoted text (written [] (quoted 39 text)) behind (r.0, r.1, λ place. (lexeme_of r.0 (written [] (quoted 39 text)) place, refl, ap (λ j. member (number j) (k.Quote ∷ [])) (r.2 place).0, (r.2 place).1)));
 }
 
 -- a literal that has no sign

@@ -1,5 +1,5 @@
 -- A printed name that stands alone is read as an expression, also where it is a function's word.
-use Rattle.std.proofs.Common.{◌≡◌, ◌⊎◌, inl, inr, ℕ, Bool, true, false, ◌||◌, eqb, List, [], ◌∷◌, ◌++◌, Option, Some, None, refl, sym, ap, ◌∙◌, arith}
+use Rattle.std.proofs.Common.{◌≡◌, ◌⊎◌, inl, inr, ℕ, Bool, true, false, ◌||◌, eqb, List, [], ◌∷◌, ◌++◌, Some, None, refl, ap, arith}
 use Rattle.cypher_syntax.specs.declared.tree.expr.Expr.{Expr}
 use Rattle.cypher_syntax.specs.declared.tree.expr.Expr.TheVariants as tree
 use Rattle.cypher_parse.specs.declared.kind.Kind.{Kind}
@@ -62,7 +62,7 @@ module _ (l : Inside) (t : Lexeme) (n : List ℕ) (has : name_of t ≡ Some n) w
 pub var_read : (m : ℕ) (n : List ℕ) → IsName n → Read (Atom (At m)) (tree.Var n) (name n)
 var_read m n is = record {
   reads = λ behind h. (let r = names n behind is h in
-    one_token (Atom (At m)) (tree.Var n) (written [] (name n)) behind (r.0, r.1, λ place. atom_alone (At m) (lexeme_of r.0 (written [] (name n)) place) n (r.2 place).1 (r.2 place).0));
+      one_token (Atom (At m)) (tree.Var n) (written [] (name n)) behind (r.0, r.1, λ place. atom_alone (At m) (lexeme_of r.0 (written [] (name n)) place) n (r.2 place).1 (r.2 place).0));
 }
 
 pub var_ready : (n : ℕ) (name : List ℕ) → IsName name → Ready 10 n (tree.Var name)

@@ -1,5 +1,5 @@
 -- Printed edges and patterns of CREATE are read as these edges and patterns.
-use Rattle.std.proofs.Common.{◌≡◌, ◌⊎◌, inl, inr, ℕ, true, List, [], ◌∷◌, ◌++◌, codes, Option, refl, sym, ap, subst, ◌∙◌, append_assoc, append-nil}
+use Rattle.std.proofs.Common.{◌≡◌, inl, inr, ℕ, true, List, [], ◌∷◌, ◌++◌, Option, refl, sym, ap, subst, ◌∙◌, append_assoc, append-nil}
 use Rattle.std.specs.List.{flat_map}
 use Rattle.cypher_syntax.specs.declared.tree.expr.Expr.{Expr}
 use Rattle.cypher_syntax.specs.declared.tree.pattern.Arrow.{Arrow}
@@ -8,15 +8,14 @@ use Rattle.cypher_syntax.specs.declared.tree.pattern.EdgePattern.{EdgePattern}
 use Rattle.cypher_syntax.specs.declared.tree.pattern.NodePattern.{NodePattern}
 use Rattle.cypher_syntax.specs.declared.tree.pattern.Pattern.{Pattern}
 use Rattle.cypher_parse.specs.declared.kind.Kind.TheVariants as k
-use Rattle.cypher_parse.specs.Languages.{Tokens, Lang, Seq, Map, After, Before, Many}
-use Rattle.cypher_parse.specs.Expressions.{Schema}
+use Rattle.cypher_parse.specs.Languages.{Lang, Seq, Map, After, Before, Many}
 use Rattle.cypher_parse.specs.Patterns.{Properties, Details, edge_of, NameOrNone, MapOrNone, NewInner, NewEdge, Node, NewPath}
 use Rattle.cypher_print.specs.Pieces.{Pieces, written, schema}
 use Rattle.cypher_print.specs.QueryText.{optional_name, kinds, map_text, before_edge, behind_edge, edge, node, pattern}
 use Rattle.cypher_print.specs.ReadBack.{parts_name, parts_sign}
 use Rattle.cypher_print.specs.Sentences.{IsSentence, All, IsName, IsNameOrNone, IsMapOrNone, IsVertex}
 use Rattle.cypher_print.specs.QuerySentences.{IsOneKind, IsDirected, IsNewEdge, IsNewPattern}
-use Rattle.cypher_print.proofs.Sentences.{no_token, in_turn, Passes}
+use Rattle.cypher_print.proofs.Sentences.{no_token, in_turn}
 use Rattle.cypher_print.proofs.Parts.{written-behind, written-both, minus, left_bracket, right_bracket, less, greater, as_part, behind_token, before_token}
 use Rattle.cypher_print.proofs.LabelsRead.{Label, one_label}
 use Rattle.cypher_print.proofs.VerticesRead.{name_or_none, map_or_none, parted_map, node_is, vertex}

@@ -1,5 +1,5 @@
 -- Printed operators are read as these operators.
-use Rattle.std.proofs.Common.{◌≡◌, ℕ, true, List, [], ◌∷◌, ◌++◌, codes, refl, ap, ◌∙◌}
+use Rattle.std.proofs.Common.{◌≡◌, ℕ, true, List, [], ◌∷◌, ◌++◌, refl, ap, ◌∙◌}
 use Rattle.cypher_syntax.specs.Bytes.{is_sign, is_long_sign}
 use Rattle.cypher_syntax.specs.declared.tree.operators.CmpOp.{CmpOp}
 use Rattle.cypher_syntax.specs.declared.tree.operators.CmpOp.TheVariants as cmp
@@ -29,7 +29,7 @@ module _ {A : Type 0} (kinds : List Kind) (of : Kind → A) (kind : Kind) (known
   spelled_as : (s : List ℕ) → or_unknown (kind_of s) ≡ kind → ((behind : List ℕ) → IsReadAs (IsSignOf s) s (32 ∷ behind)) → Sure Operator (of kind) ((32 ∷ (s ++ 32 ∷ [])) ∷ [])
   spelled_as s is r = spaced_out Operator (of kind) s
       (λ behind. (let x = r behind in
-        one_token Operator (of kind) s (32 ∷ behind) (x.0, x.1, λ place. (lexeme_of x.0 s place, (refl, ap (λ j. member (number j) kinds) (x.2 place ∙ is) ∙ known), ap of (x.2 place ∙ is)))))
+      one_token Operator (of kind) s (32 ∷ behind) (x.0, x.1, λ place. (lexeme_of x.0 s place, (refl, ap (λ j. member (number j) kinds) (x.2 place ∙ is) ∙ known), ap of (x.2 place ∙ is)))))
 
   sign_as : (a : ℕ) → is_sign a ≡ true → or_unknown (kind_of (a ∷ [])) ≡ kind → ((behind : List ℕ) → parts_sign a (32 ∷ behind) ≡ true) → Sure Operator (of kind) ((32 ∷ a ∷ 32 ∷ []) ∷ [])
   sign_as a h is parts = spelled_as (a ∷ []) is (λ behind. signs a (32 ∷ behind) h (parts behind))

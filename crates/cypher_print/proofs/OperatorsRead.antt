@@ -1,5 +1,5 @@
 -- Printed operators between operands are read with these operands.
-use Rattle.std.proofs.Common.{◌≡◌, ℕ, suc, ◌≤◌, List, [], ◌∷◌, ◌++◌, codes, refl, ap, arith}
+use Rattle.std.proofs.Common.{ℕ, ◌≤◌, [], ◌∷◌, codes, refl, ap, arith}
 use Rattle.cypher_syntax.specs.declared.tree.expr.Expr.{Expr}
 use Rattle.cypher_syntax.specs.declared.tree.expr.Expr.TheVariants as tree
 use Rattle.cypher_syntax.specs.declared.tree.expr.PredOp.{PredOp}
@@ -12,7 +12,7 @@ use Rattle.cypher_syntax.specs.declared.tree.operators.ProdOp.TheVariants as pro
 use Rattle.cypher_parse.specs.declared.kind.Kind.TheVariants as k
 use Rattle.cypher_parse.specs.declared.kinds.TheConstants.{COMPARISONS, PRODUCT_SIGNS, SUM_SIGNS}
 use Rattle.cypher_parse.specs.Words.{comparison_of, sum_sign_of, product_sign_of}
-use Rattle.cypher_parse.specs.Languages.{Lang, One, Seq, Map, After}
+use Rattle.cypher_parse.specs.Languages.{One, Seq, Map, After}
 use Rattle.cypher_parse.specs.Expressions.{Inside, joined, chained, Unary, Product, Sum, Test, Predicate, Comparison, Not, And, Xor, Or, At}
 use Rattle.cypher_print.specs.Pieces.{cmp_text, sum_text, prod_text}
 use Rattle.cypher_print.specs.Printed.{level_at, expr, pred}

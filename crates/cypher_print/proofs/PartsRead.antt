@@ -1,5 +1,5 @@
 -- Names, labels, lists and expressions as parts of what is printed.
-use Rattle.std.proofs.Common.{◌≡◌, ◌⊎◌, inl, inr, ℕ, ◌<◌, Bool, true, false, cond, List, [], ◌∷◌, ◌++◌, length, codes, Option, Some, None, refl, sym, ap, ◌∙◌, append_assoc, arith}
+use Rattle.std.proofs.Common.{◌≡◌, ℕ, Bool, true, false, cond, List, [], ◌∷◌, ◌++◌, codes, Option, Some, None, refl, sym, ap, ◌∙◌, append_assoc, arith}
 use Rattle.std.proofs.lemmas.Bool.{false≢true}
 use Rattle.std.proofs.lemmas.Bool.Decides.{nat_tests}
 use Rattle.std.specs.List.{flat_map}
@@ -9,18 +9,18 @@ use Rattle.cypher_syntax.specs.declared.tree.expr.Expr.{Expr}
 use Rattle.cypher_parse.specs.declared.kind.Kind.TheVariants as k
 use Rattle.cypher_parse.specs.Spelling.{kind_of}
 use Rattle.cypher_parse.specs.Texts.{or_unknown}
-use Rattle.cypher_parse.specs.Languages.{Tokens, Lang, After, Listed}
+use Rattle.cypher_parse.specs.Languages.{Lang, After, Listed}
 use Rattle.cypher_parse.specs.Expressions.{Name, Schema, Labels}
 use Rattle.cypher_print.specs.Pieces.{Pieces, written, is_word, spelled, quoted, schema, name}
 use Rattle.cypher_print.specs.Printed.{joined, labels, expr, option}
 use Rattle.cypher_print.specs.QueryText.{count_text}
-use Rattle.cypher_print.specs.ReadBack.{parts_name, parts_sign}
+use Rattle.cypher_print.specs.ReadBack.{parts_sign}
 use Rattle.cypher_print.specs.Sentences.{IsSentence, All, IsName, IsReadIn}
 use Rattle.cypher_print.specs.QuerySentences.{AllSome}
 use Rattle.cypher_print.proofs.ReadBack.{split}
 use Rattle.cypher_print.proofs.Sentences.{Passes}
 use Rattle.cypher_print.proofs.Parts.{written-behind, written-both, sign, colon, comma}
-use Rattle.cypher_print.proofs.Reading.{Read, Sure, Token, Apart, apart_none, begins, turn, seq, after_sure, mapped, many, many_apart, listed}
+use Rattle.cypher_print.proofs.Reading.{Read, Token, Apart, apart_none, begins, turn, seq, after_sure, mapped, many, many_apart, listed}
 use Rattle.cypher_print.proofs.Words.{trailing}
 use Rattle.cypher_print.proofs.VerticesRead.{name_read}
 use Rattle.cypher_print.proofs.LabelsRead.{Label, schema_name}

@@ -1,14 +1,14 @@
 -- The patterns that a text's tokens give are such as are read from their printed form.
-use Rattle.std.proofs.Common.{◌≡◌, [], ◌∷◌, ◌++◌, List, Option, Some, None, ℕ}
+use Rattle.std.proofs.Common.{[], ◌∷◌, Some, None}
 use Rattle.cypher_syntax.specs.declared.tree.expr.Expr.{Expr}
 use Rattle.cypher_syntax.specs.declared.tree.pattern.Arrow.TheVariants as arrow
 use Rattle.cypher_parse.specs.declared.kind.Kind.TheVariants as k
 use Rattle.cypher_parse.specs.declared.kinds.TheConstants.{NAMES, SCHEMA_NAMES}
-use Rattle.cypher_parse.specs.Languages.{Lang, Seq, Map, After}
-use Rattle.cypher_parse.specs.Expressions.{Name, Schema, Flag}
+use Rattle.cypher_parse.specs.Languages.{Lang}
+use Rattle.cypher_parse.specs.Expressions.{Name, Schema}
 use Rattle.cypher_parse.specs.Patterns.{Details, node_of, edge_of, right_or_neither, pattern_of, NameOrNone, LabelsOrNone, Kinds, Entry, PropertyMap, MapOrNone, Node, Inner, Edge, Path, NewInner, NewEdge, NewPath}
 use Rattle.cypher_print.specs.Sentences.{All, IsName, IsNameOrNone, IsReadIn, IsEntry, IsMapOrNone, IsVertex, IsEdge, IsPattern}
-use Rattle.cypher_print.specs.QuerySentences.{AllSome, IsOneKind, IsDirected, IsNewEdge, IsNewPattern}
+use Rattle.cypher_print.specs.QuerySentences.{IsOneKind, IsNewEdge, IsNewPattern}
 use Rattle.cypher_print.proofs.Holds.{Holds, weaker, anything, of_seq, of_map, of_after, of_before, of_alt, of_opt, of_many, of_chain, of_listed, of_name}
 
 pub name : Holds Name IsName

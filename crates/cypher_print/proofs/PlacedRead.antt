@@ -1,15 +1,14 @@
 -- A printed expression at a place that asks for a level is read as one of this level: in parentheses where it binds less.
-use Rattle.std.proofs.Common.{◌≡◌, ◌⊎◌, inl, inr, ℕ, zero, suc, ◌<◌, ◌≤◌, Bool, true, false, cond, nat_lt, List, [], ◌∷◌, ◌++◌, codes, refl, sym, ap, subst, arith}
+use Rattle.std.proofs.Common.{◌≡◌, inl, ℕ, suc, ◌<◌, ◌≤◌, Bool, true, false, cond, nat_lt, [], ◌∷◌, ◌++◌, codes, refl, sym, subst, arith}
 use Rattle.std.proofs.lemmas.Bool.Decides.{nat_tests}
 use Rattle.cypher_syntax.specs.declared.tree.expr.Expr.{Expr, out-Expr}
 use Rattle.cypher_parse.specs.declared.kind.Kind.TheVariants as k
-use Rattle.cypher_parse.specs.Languages.{Tokens}
 use Rattle.cypher_parse.specs.Expressions.{Or, Atom, At}
-use Rattle.cypher_print.specs.Pieces.{Pieces, written}
-use Rattle.cypher_print.specs.Printed.{level_at, bracketed, expr}
+use Rattle.cypher_print.specs.Pieces.{Pieces}
+use Rattle.cypher_print.specs.Printed.{level_at, expr}
 use Rattle.cypher_print.proofs.PrintLemmas.{placed}
 use Rattle.cypher_print.proofs.Parts.{left_paren, right_paren}
-use Rattle.cypher_print.proofs.Reading.{Read, Sure, Token, of_sure, after_sure, before, via}
+use Rattle.cypher_print.proofs.Reading.{Read, Token, of_sure, after_sure, before, via}
 use Rattle.cypher_print.proofs.ExpressionLevels.{Level, at_most}
 
 -- how tightly its outermost operator binds

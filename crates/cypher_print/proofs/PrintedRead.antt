@@ -1,9 +1,8 @@
 -- A text's query is the query of its printed form.
-use Rattle.std.proofs.Common.{◌≡◌, ℕ, ◌+◌, List, [], ◌++◌, length, map, None, refl, sym, ap, subst, ◌∙◌, append-nil, arith}
-use Rattle.cypher_syntax.specs.declared.token.Token.{Token}
+use Rattle.std.proofs.Common.{◌≡◌, ℕ, List, [], ◌++◌, map, None, refl, sym, ap, subst, ◌∙◌, append-nil}
 use Rattle.cypher_syntax.specs.declared.tree.expr.Expr.{Expr}
 use Rattle.cypher_syntax.specs.declared.tree.query.Query.{Query}
-use Rattle.cypher_syntax.specs.Lexing.{Lexed, lexed, lexed_from, after_tokens}
+use Rattle.cypher_syntax.specs.Lexing.{lexed, lexed_from}
 use Rattle.cypher_parse.specs.Languages.{Lang, Tokens}
 use Rattle.cypher_parse.specs.Queries.{QueryAt}
 use Rattle.cypher_parse.specs.Expressions.{Expression}
@@ -26,7 +25,7 @@ all_of_text L a text h =
     let P : List ℕ → Type 0 = λ w. L (map (lexeme w) x.0) a in
     let tokens : lexed text ≡ record { tokens = x.0 ++ []; fault = None } = ap (lexed_from 0 0) (sym nothing) ∙ x.1 in
     let these : map (lexeme text) x.0 ≡ lexemes text =
-        sym (ap (lexemes_in text) (tokens ∙ ap (λ ts. record { tokens = ts; fault = None }) (append-nil x.0)) ∙ append-nil (map (lexeme text) x.0)) in
+    sym (ap (lexemes_in text) (tokens ∙ ap (λ ts. record { tokens = ts; fault = None }) (append-nil x.0)) ∙ append-nil (map (lexeme text) x.0)) in
     let Q : Tokens → Type 0 = λ ts. L ts a in
     subst Q these (subst P nothing x.2)
 

@@ -1,32 +1,25 @@
 -- What WITH and RETURN make of the rows is read from its printed form.
-use Rattle.std.proofs.Common.{◌≡◌, ◌⊎◌, inl, inr, ℕ, ◌+◌, ◌<◌, ◌^◌, pos, Bool, true, false, ◌||◌, List, [], ◌∷◌, ◌++◌, length, codes, Option, Some, None, refl, sym, ap, subst, ◌∙◌, append_assoc, append-nil, arith}
-use Rattle.std.specs.List.{flat_map}
+use Rattle.std.proofs.Common.{◌≡◌, inl, inr, ℕ, ◌<◌, pos, Bool, true, false, List, [], ◌∷◌, ◌++◌, length, codes, Option, Some, None, refl, sym, ap, subst, ◌∙◌, append_assoc, append-nil, arith}
 use Rattle.std.specs.Fmt.{decimal}
 use Rattle.cypher_syntax.specs.declared.tree.expr.Expr.{Expr}
-use Rattle.cypher_syntax.specs.declared.tree.expr.Expr.TheVariants as tree
 use Rattle.cypher_syntax.specs.declared.tree.projection.Item.{Item}
 use Rattle.cypher_syntax.specs.declared.tree.projection.Projection.{Projection}
 use Rattle.cypher_syntax.specs.declared.tree.projection.Sort.{Sort}
-use Rattle.cypher_parse.specs.declared.kind.Kind.{Kind}
 use Rattle.cypher_parse.specs.declared.kind.Kind.TheVariants as k
 use Rattle.cypher_parse.specs.Kinds.{number, member}
-use Rattle.cypher_parse.specs.Spelling.{kind_of}
-use Rattle.cypher_parse.specs.Texts.{or_unknown, lexeme_of}
-use Rattle.cypher_parse.specs.Languages.{Tokens, Lang, One, Seq, Map, After, Alt, Opt, Listed}
+use Rattle.cypher_parse.specs.Texts.{lexeme_of}
+use Rattle.cypher_parse.specs.Languages.{Lang, One, Map, After, Alt, Opt, Listed}
 use Rattle.cypher_parse.specs.Expressions.{Name, Flag}
-use Rattle.cypher_parse.specs.Clauses.{Where}
-use Rattle.cypher_parse.specs.Projections.{item_of, sort_of, Parts, projection_of, Number, Count, Direction, SortItem, SortsOrNone, Tail, Parted, ReturnItem, WithItem, Returned, Passed}
+use Rattle.cypher_parse.specs.Projections.{item_of, Parts, projection_of, Number, Count, Direction, SortItem, SortsOrNone, Parted, ReturnItem, WithItem, Returned, Passed}
 use Rattle.cypher_print.specs.Pieces.{Pieces, written, name}
 use Rattle.cypher_print.specs.Printed.{joined, distinct_word, expr, option}
 use Rattle.cypher_print.specs.QueryText.{as_name, item, star_text, down_word, sort_key, sorts_text, count_text, projection}
-use Rattle.cypher_print.specs.ReadBack.{parts_name}
-use Rattle.cypher_print.specs.Sentences.{IsSentence, All, IsName, IsNameOrNone, IsReadIn, IsFilter}
-use Rattle.cypher_print.specs.QuerySentences.{AllSome, IsReturnItem, IsWithItem, IsStarOr, IsSmall, IsCount, IsReturned, IsPassed}
+use Rattle.cypher_print.specs.Sentences.{All, IsNameOrNone, IsReadIn}
+use Rattle.cypher_print.specs.QuerySentences.{IsReturnItem, IsWithItem, IsStarOr, IsSmall, IsCount, IsReturned, IsPassed}
 use Rattle.cypher_print.proofs.PrintLemmas.{print-Var}
 use Rattle.cypher_print.proofs.ReadNumbers.{numbers}
-use Rattle.cypher_print.proofs.Sentences.{one_token, no_token, Passes}
-use Rattle.cypher_print.proofs.Parts.{sign, lone}
-use Rattle.cypher_print.proofs.Reading.{Read, Sure, Apart, Word, apart_none, begins, apart_both, seq, seq_sure, after_sure, via, via_sure, rewritten, left, right, none}
+use Rattle.cypher_print.proofs.Sentences.{one_token, no_token}
+use Rattle.cypher_print.proofs.Reading.{Read, Sure, Apart, apart_none, begins, apart_both, seq, seq_sure, after_sure, via, via_sure, rewritten, left, right, none}
 use Rattle.cypher_print.proofs.Words.{parts_too, distinct, star, order, by, desc, skip, limit, as_word}
 use Rattle.cypher_print.proofs.PartsRead.{a_name, commas, an_expr, apart_count, apart_option}
 use Rattle.cypher_print.proofs.ReadingsRead.{where_read}
@@ -36,7 +29,7 @@ use Rattle.cypher_print.proofs.ReadingsRead.{where_read}
 pub a_number : (n : ℕ) → IsSmall n → Read Number n (decimal n ∷ [])
 a_number n small = record {
   reads = λ behind h. (let r = numbers n behind small (parts_too behind h) in
-    one_token Number n (decimal n) behind (r.0, r.1, λ place. (pos n, (lexeme_of r.0 (decimal n) place, refl, ap (λ j. member (number j) (k.Integer ∷ [])) (r.2 place).0, (r.2 place).1), refl)));
+      one_token Number n (decimal n) behind (r.0, r.1, λ place. (pos n, (lexeme_of r.0 (decimal n) place, refl, ap (λ j. member (number j) (k.Integer ∷ [])) (r.2 place).0, (r.2 place).1), refl)));
 }
 
 skip_read : (o : Option ℕ) → IsCount o → Read (Count k.Skip) o (count_text (codes " SKIP ") o)

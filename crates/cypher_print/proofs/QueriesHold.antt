@@ -1,5 +1,5 @@
 -- The query that a text's tokens give is such as is read from its printed form.
-use Rattle.std.proofs.Common.{◌≡◌, ℕ, ◌<◌, Bool, true, false, refl, sym, append-nil, [], ◌∷◌, ◌++◌, List, length, Option, Some, None}
+use Rattle.std.proofs.Common.{◌<◌, Bool, true, false, refl, sym, append-nil, [], ◌∷◌, ◌++◌, List, length, Option, Some, None}
 use Rattle.cypher_syntax.specs.declared.tree.expr.Expr.{Expr}
 use Rattle.cypher_syntax.specs.declared.tree.expr.Expr.TheVariants as tree
 use Rattle.cypher_syntax.specs.declared.tree.clause.Clause.{Clause}
@@ -12,14 +12,14 @@ use Rattle.cypher_syntax.specs.declared.tree.projection.Projection.{Projection}
 use Rattle.cypher_syntax.specs.declared.tree.query.Time.TheVariants as time
 use Rattle.cypher_parse.specs.declared.kind.Kind.{Kind}
 use Rattle.cypher_parse.specs.declared.kind.Kind.TheVariants as k
-use Rattle.cypher_parse.specs.Languages.{Lang, Seq, Map, After}
+use Rattle.cypher_parse.specs.Languages.{Lang}
 use Rattle.cypher_parse.specs.Expressions.{Labels}
 use Rattle.cypher_parse.specs.Clauses.{match_of, unwind_of, delete_of, Where, Match, Unwind, Reading, Set, Create, SetClause, Remove, RemoveClause, Delete, Updating}
 use Rattle.cypher_parse.specs.Projections.{item_of, sort_of, Parts, projection_of, Count, SortItem, Parted, ReturnItem, WithItem, Returned, Passed}
 use Rattle.cypher_parse.specs.Queries.{stage_of, Last, query_of, Instants, Part, Return, Ending, Whole}
-use Rattle.cypher_print.specs.Sentences.{All, IsName, IsNameOrNone, IsReadIn, IsPattern, IsFilter, IsMatch, IsUnwind, IsReading}
-use Rattle.cypher_print.specs.QuerySentences.{AllSome, IsSetItem, IsRemoveItem, IsUpdate, IsUpdating, IsReturnItem, IsWithItem, IsStarOr, IsCount, IsProjection, IsReturned, IsPassed, AreClauses, IsStage, IsEnd, IsEnding, IsTime, IsWholeQuery}
-use Rattle.cypher_print.proofs.Holds.{Holds, weaker, anything, of_seq, of_map, of_after, of_before, of_alt, of_opt, of_many, of_some, of_listed, of_number}
+use Rattle.cypher_print.specs.Sentences.{All, IsName, IsNameOrNone, IsReadIn, IsFilter, IsReading}
+use Rattle.cypher_print.specs.QuerySentences.{AllSome, IsSetItem, IsRemoveItem, IsUpdating, IsReturnItem, IsWithItem, IsStarOr, IsCount, IsReturned, IsPassed, IsStage, IsEnd, IsEnding, IsTime, IsWholeQuery}
+use Rattle.cypher_print.proofs.Holds.{Holds, weaker, anything, of_seq, of_map, of_after, of_alt, of_opt, of_many, of_some, of_listed, of_number}
 use Rattle.cypher_print.proofs.PatternsHold.{name, schema, pattern, new_pattern}
 
 labels : Holds Labels (AllSome IsName)

@@ -1,5 +1,5 @@
 -- A printed query is read as that query.
-use Rattle.std.proofs.Common.{◌≡◌, ◌⊎◌, inl, inr, ℕ, ◌+◌, ◌<◌, Bool, true, false, List, [], ◌∷◌, ◌++◌, length, codes, Option, Some, None, refl, sym, ap, subst, ◌∙◌, append_assoc, append-nil, arith}
+use Rattle.std.proofs.Common.{◌≡◌, inl, inr, true, List, [], ◌∷◌, ◌++◌, codes, Option, Some, None, refl, sym, ap, subst, ◌∙◌, append_assoc, append-nil, arith}
 use Rattle.std.specs.List.{flat_map}
 use Rattle.std.specs.Fmt.{decimal}
 use Rattle.cypher_syntax.specs.declared.tree.expr.Expr.{Expr}
@@ -11,17 +11,14 @@ use Rattle.cypher_syntax.specs.declared.tree.query.Stage.{Stage}
 use Rattle.cypher_syntax.specs.declared.tree.query.Time.{Time}
 use Rattle.cypher_syntax.specs.declared.tree.query.Time.TheVariants as time
 use Rattle.cypher_parse.specs.declared.kind.Kind.TheVariants as k
-use Rattle.cypher_parse.specs.Languages.{Tokens, Lang, Seq, Map, After, Alt, Opt, Many, Some1}
+use Rattle.cypher_parse.specs.Languages.{Lang, Map, Opt, Many, Some1}
 use Rattle.cypher_parse.specs.Expressions.{Flag}
 use Rattle.cypher_parse.specs.Clauses.{Reading, Updating}
-use Rattle.cypher_parse.specs.Projections.{Number, Passed}
-use Rattle.cypher_parse.specs.Queries.{stage_of, query_of, Last, Instants, Part, Return, Ending, Whole}
+use Rattle.cypher_parse.specs.Queries.{Instants, Part, Return, Ending, Whole}
 use Rattle.cypher_print.specs.Pieces.{Pieces, written}
 use Rattle.cypher_print.specs.QueryText.{clause_text, clauses_text, projection, stage_text, returns_text, time_text, query_pieces}
-use Rattle.cypher_print.specs.ReadBack.{parts_name}
 use Rattle.cypher_print.specs.Sentences.{IsSentence, All, IsReading}
-use Rattle.cypher_print.specs.QuerySentences.{IsUpdating, AreClauses, IsStage, IsEnd, IsEnding, IsTime, IsWholeQuery}
-use Rattle.cypher_print.proofs.Sentences.{no_token}
+use Rattle.cypher_print.specs.QuerySentences.{IsUpdating, IsStage, IsEnd, IsEnding, IsTime, IsWholeQuery}
 use Rattle.cypher_print.proofs.Parts.{written-both}
 use Rattle.cypher_print.proofs.Reading.{Read, Sure, begins, seq, seq_sure, seq_all, after_sure, after_all, via, via_sure, rewritten, rewritten_sure, many_sure, none_sure}
 use Rattle.cypher_print.proofs.Words.{trailing, with_word, return_word, tt_word, snapshot, between_word, and_word, semicolon}
@@ -69,7 +66,7 @@ module _ (E : Lang Expr) where
       let cs = is.2 in
       let p = s.next in
       let same : (clauses_text rs ++ clauses_text us) ++ codes "WITH " ∷ (projection p ++ codes " " ∷ []) ≡ stage_text s =
-          ap (λ ys. ys ++ codes "WITH " ∷ (projection p ++ codes " " ∷ [])) (sym (ap clauses_text cs.0 ∙ split_text rs us)) in
+      ap (λ ys. ys ++ codes "WITH " ∷ (projection p ++ codes " " ∷ [])) (sym (ap clauses_text cs.0 ∙ split_text rs us)) in
       let x = seq_all (seq_all (reading_clauses rs cs.1) (updating_clauses us cs.2)) (spaced_behind (after_sure with_word (passed E p is.3))) in
       let S : List Clause → Stage = λ cs. record { clauses = cs; next = p } in
       rewritten_sure same (via_sure (λ ts u. (((rs, us), p), u, ap S (sym cs.0))) x)
@@ -116,5 +113,5 @@ module _ (E : Lang Expr) where
       let stop : Read (Flag k.Semicolon) true (codes ";" ∷ []) = via (λ ts u. inl (u.0, (u.1, u.2), refl)) semicolon.word in
       let back = seq_sure (time_read q.time is.2) stop in
       let same : (S ++ (C ++ R)) ++ (T ++ codes ";" ∷ []) ≡ query_pieces q =
-          sym (append_assoc ((S ++ C) ++ R) T (codes ";" ∷ []) ∙ ap (λ ys. ys ++ (T ++ codes ";" ∷ [])) (append_assoc S C R)) in
+      sym (append_assoc ((S ++ C) ++ R) T (codes ";" ∷ []) ∙ ap (λ ys. ys ++ (T ++ codes ";" ∷ [])) (append_assoc S C R)) in
       rewritten (ap (written []) same) (via (λ ts u. (((q.stages, (q.clauses, q.returns)), (q.time, true)), u, refl)) (seq_sure front back))

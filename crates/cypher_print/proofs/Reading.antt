@@ -1,9 +1,9 @@
 -- Printed pieces that are read, and how they follow one another.
-use Rattle.std.proofs.Common.{◌≡◌, ◌⊎◌, inl, inr, ℕ, true, not, ◌||◌, eqb, List, [], ◌∷◌, ◌++◌, refl, sym, ap, subst, ◌∙◌, append_assoc}
+use Rattle.std.proofs.Common.{◌≡◌, inl, inr, ℕ, true, not, ◌||◌, eqb, List, [], ◌∷◌, ◌++◌, refl, sym, ap, subst, ◌∙◌, append_assoc}
 use Rattle.std.specs.List.{flat_map}
 use Rattle.cypher_syntax.specs.Bytes.{continues_word}
 use Rattle.cypher_parse.specs.declared.kind.Kind.{Kind}
-use Rattle.cypher_parse.specs.Languages.{Tokens, Lang, One, Seq, Map, After, Before, Alt, Opt, Many, Chain, Listed}
+use Rattle.cypher_parse.specs.Languages.{Tokens, Lang, One, Seq, Map, After, Before, Alt, Opt, Many, Listed}
 use Rattle.cypher_print.specs.Pieces.{Pieces, written}
 use Rattle.cypher_print.specs.Printed.{joined}
 use Rattle.cypher_print.specs.ReadBack.{parts_name}

@@ -1,5 +1,5 @@
 -- Printed clauses that read are read as these clauses.
-use Rattle.std.proofs.Common.{◌≡◌, ◌⊎◌, inl, inr, ℕ, Bool, true, false, List, [], ◌∷◌, ◌++◌, codes, Option, Some, None, refl}
+use Rattle.std.proofs.Common.{◌≡◌, inl, inr, ℕ, Bool, true, false, List, [], codes, Option, Some, None, refl}
 use Rattle.cypher_syntax.specs.declared.tree.clause.Clause.{Clause}
 use Rattle.cypher_syntax.specs.declared.tree.clause.Clause.TheVariants as clause
 use Rattle.cypher_syntax.specs.declared.tree.clause.MatchClause.{MatchClause}
@@ -10,7 +10,7 @@ use Rattle.cypher_parse.specs.Languages.{Lang}
 use Rattle.cypher_parse.specs.Expressions.{Flag}
 use Rattle.cypher_parse.specs.Clauses.{Where, Match, Unwind as UnwindClause, Reading}
 use Rattle.cypher_print.specs.Pieces.{written, name}
-use Rattle.cypher_print.specs.Printed.{expr, option}
+use Rattle.cypher_print.specs.Printed.{option}
 use Rattle.cypher_print.specs.QueryText.{pattern, optional_word, match_text, unwind_text, clause_text}
 use Rattle.cypher_print.specs.ReadBack.{parts_name}
 use Rattle.cypher_print.specs.Sentences.{IsSentence, IsPattern, IsFilter, IsMatch, IsUnwind, IsReading}

@@ -1,5 +1,5 @@
 -- No token of a text carries an empty name, or an integer that doesn't fit.
-use Rattle.std.proofs.Common.{◌≡◌, ℕ, zero, suc, pos, ◌+◌, ◌-◌, ◌<◌, ◌^◌, Bool, true, false, cond, ◌&&◌, eqb, nat_lt, List, [], ◌∷◌, length, take, drop, map, slice_range, Option, Some, None, option_and_then, refl, sym, ap, subst, arith}
+use Rattle.std.proofs.Common.{◌≡◌, ℕ, zero, suc, pos, ◌+◌, ◌-◌, ◌<◌, ◌^◌, Bool, true, false, cond, ◌&&◌, eqb, nat_lt, List, [], ◌∷◌, length, take, drop, map, slice_range, Option, Some, None, option_and_then, refl, arith}
 use Rattle.std.specs.List.{prefix_len}
 use Rattle.std.specs.Char.{is_ascii_digit}
 use Rattle.std.proofs.lemmas.Bool.Decides.{nat_tests}
@@ -11,7 +11,7 @@ use Rattle.cypher_syntax.specs.declared.lexer.front.Front.TheVariants.{Gap, Made
 use Rattle.cypher_syntax.specs.Bytes.{is_blank, begins_word, continues_word, is_quote, heads, within_line, sign_len, closed_len}
 use Rattle.cypher_syntax.specs.Numerals.{numeral_of, integer_of}
 use Rattle.cypher_syntax.specs.Quotes.{Ended, inside}
-use Rattle.cypher_syntax.specs.Lexing.{made, number_front, name_front, text_front, closed_front, sign_front, slash_front, unquoted_front, front_of, Lexed, lexed_from, lexed, after_front}
+use Rattle.cypher_syntax.specs.Lexing.{made, name_front, text_front, closed_front, sign_front, slash_front, unquoted_front, front_of, Lexed, lexed_from, lexed, after_front}
 use Rattle.cypher_syntax.specs.Spans.{IsParted, IsWord, IsSpelling}
 use Rattle.cypher_syntax.proofs.Parts.{parted}
 use Rattle.cypher_parse.specs.Texts.{lexeme_of, lexeme, unknown_at, lexemes}

@@ -1,5 +1,5 @@
 -- Printed signs and NOT are read as these.
-use Rattle.std.proofs.Common.{◌≡◌, ◌⊎◌, inl, inr, ℕ, suc, ◌+◌, ◌<◌, ◌≤◌, ◌^◌, negsuc, true, cond, List, [], ◌∷◌, ◌++◌, codes, refl, sym, ap, ◌∙◌, subst, arith}
+use Rattle.std.proofs.Common.{◌≡◌, inl, inr, ℕ, suc, ◌<◌, ◌^◌, negsuc, cond, [], ◌∷◌, codes, refl, ap, ◌∙◌, arith}
 use Rattle.std.specs.Fmt.{decimal}
 use Rattle.graph_value.specs.declared.value.Value.TheVariants as value
 use Rattle.cypher_syntax.specs.declared.tree.expr.Expr.{Expr}
@@ -9,16 +9,16 @@ use Rattle.cypher_parse.specs.declared.kind.Kind.TheVariants as k
 use Rattle.cypher_parse.specs.Kinds.{number, member}
 use Rattle.cypher_parse.specs.Spelling.{kind_of}
 use Rattle.cypher_parse.specs.Texts.{lexeme_of}
-use Rattle.cypher_parse.specs.Languages.{Tokens, Lang, One, Map, After, Alt}
+use Rattle.cypher_parse.specs.Languages.{One, Map}
 use Rattle.cypher_parse.specs.Expressions.{Inside, Negative, Post, Unary, Comparison, Not, At}
-use Rattle.cypher_print.specs.Pieces.{Pieces, written, value_level}
+use Rattle.cypher_print.specs.Pieces.{Pieces, value_level}
 use Rattle.cypher_print.specs.Printed.{level_at, is_signed, expr}
 use Rattle.cypher_print.proofs.PrintLemmas.{print-Lit, print-Not, print-Sign}
 use Rattle.cypher_print.proofs.ReadNumbers.{least}
 use Rattle.cypher_print.proofs.Sentences.{one_token}
 use Rattle.cypher_print.proofs.Parts.{sign, lone, minus}
 use Rattle.cypher_print.proofs.Holds.{Holds, anything, weaker, of_map, of_alt}
-use Rattle.cypher_print.proofs.Reading.{Read, Sure, Token, after_sure, via, mapped, left, right, rewritten}
+use Rattle.cypher_print.proofs.Reading.{Read, Token, after_sure, via, mapped, left, right, rewritten}
 use Rattle.cypher_print.proofs.Words.{parts_too}
 use Rattle.cypher_print.proofs.ExpressionWords.{not_word}
 use Rattle.cypher_print.proofs.PlacedRead.{own, Ready, looser_place}
@@ -37,7 +37,7 @@ Least = tree.Lit (value.Int (negsuc 9223372036854775807))
 least_read : Read (Map (λ t. Least) (One (k.LeastMagnitude ∷ []))) Least (decimal (2 ^ 63) ∷ [])
 least_read = record {
   reads = λ behind h. (let r = least behind (parts_too behind h) in
-    one_token (Map (λ t. Least) (One (k.LeastMagnitude ∷ []))) Least (decimal (2 ^ 63)) behind (r.0, r.1, λ place. (lexeme_of r.0 (decimal (2 ^ 63)) place, (refl, ap (λ j. member (number j) (k.LeastMagnitude ∷ [])) (r.2 place)), refl)));
+      one_token (Map (λ t. Least) (One (k.LeastMagnitude ∷ []))) Least (decimal (2 ^ 63)) behind (r.0, r.1, λ place. (lexeme_of r.0 (decimal (2 ^ 63)) place, (refl, ap (λ j. member (number j) (k.LeastMagnitude ∷ [])) (r.2 place)), refl)));
 }
 
 own_least : own Least ≡ 8

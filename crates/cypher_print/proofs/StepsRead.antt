@@ -1,5 +1,5 @@
 -- What is asked of an operand behind it is read from its printed form.
-use Rattle.std.proofs.Common.{◌≡◌, ◌⊎◌, inl, inr, ℕ, suc, ◌<◌, ◌≤◌, true, List, [], ◌∷◌, ◌++◌, codes, refl, sym, ap, ◌∙◌, subst, append_assoc, append-nil, arith}
+use Rattle.std.proofs.Common.{◌≡◌, inl, inr, ℕ, suc, ◌<◌, ◌≤◌, List, [], ◌∷◌, ◌++◌, codes, refl, sym, ap, ◌∙◌, subst, append_assoc, append-nil, arith}
 use Rattle.std.specs.List.{flat_map}
 use Rattle.cypher_syntax.specs.declared.tree.expr.Expr.{Expr}
 use Rattle.cypher_syntax.specs.declared.tree.expr.Expr.TheVariants as tree
@@ -8,8 +8,8 @@ use Rattle.cypher_syntax.specs.declared.tree.expr.PostOp.{PostOp, fold-roll-Post
 use Rattle.cypher_syntax.specs.declared.tree.expr.PostOp.TheVariants as step
 use Rattle.cypher_parse.specs.declared.kind.Kind.TheVariants as k
 use Rattle.cypher_parse.specs.declared.kinds.TheConstants.{SCHEMA_NAMES}
-use Rattle.cypher_parse.specs.Languages.{Tokens, Lang, Seq, Map, After, Before, Many}
-use Rattle.cypher_parse.specs.Expressions.{Inside, chained, flat, posted, Schema, Labels, Atom, Tests, Step, Post, Or, At}
+use Rattle.cypher_parse.specs.Languages.{Lang, Seq, Map}
+use Rattle.cypher_parse.specs.Expressions.{Inside, chained, flat, posted, Atom, Tests, Step, Post, Or, At}
 use Rattle.cypher_print.specs.Pieces.{Pieces, written, schema}
 use Rattle.cypher_print.specs.Printed.{Placed, level_at, expr_level, post_level, pred_level, expr, post, labels}
 use Rattle.cypher_print.specs.Sentences.{All, IsName}
@@ -17,7 +17,7 @@ use Rattle.cypher_print.specs.QuerySentences.{AllSome}
 use Rattle.cypher_print.proofs.PrintLemmas.{print-Post}
 use Rattle.cypher_print.proofs.Parts.{left_bracket, right_bracket}
 use Rattle.cypher_print.proofs.Holds.{Holds, of_map, of_seq, of_alt, of_opt, of_after, of_before, of_many, of_name, of_some}
-use Rattle.cypher_print.proofs.Reading.{Read, Apart, Token, of_sure, apart_none, begins, apart_both, seq, after_sure, before, via, left, right, none, rewritten, many, many_apart}
+use Rattle.cypher_print.proofs.Reading.{Read, Apart, Token, of_sure, apart_none, begins, apart_both, seq, after_sure, before, via, none, rewritten, many, many_apart}
 use Rattle.cypher_print.proofs.PartsRead.{a_schema, some_labels, labels_apart, dotless_schema, after_point}
 use Rattle.cypher_print.proofs.PlacedRead.{Ready, at_level, looser_place, ready_as}
 use Rattle.cypher_print.proofs.InsideRead.{Within, Opened, loose, of_enter, at_one_more}
@@ -117,7 +117,7 @@ module _ (n : ℕ) (a : Expr) (r : Ready 10 n a) (first : List PostOp) (f : Read
   with_asked [] e = looser_place r
   with_asked (b ∷ bs) e =
       let same : expr a 10 ++ (asked first ++ flat_map asked turns) ≡ expr (tree.Post a (b ∷ bs)) 0 =
-          ap (λ ys. expr a 10 ++ ys) (sym (ap asked (sym e) ∙ asked_both first (flat turns) ∙ ap (λ ys. asked first ++ ys) (asked_flat turns))) ∙ sym (print-Post a (b ∷ bs)) in
+      ap (λ ys. expr a 10 ++ ys) (sym (ap asked (sym e) ∙ asked_both first (flat turns) ∙ ap (λ ys. asked first ++ ys) (asked_flat turns))) ∙ sym (print-Post a (b ∷ bs)) in
       ready_as 9 9 n (tree.Post a (b ∷ bs)) (ap level_at (tree.outs-Post a (b ∷ bs))) (omega arith) (λ m more. rewritten (ap (written []) same) (whole_read m b bs e more))
 
 module _ (n : ℕ) (l : Inside) (o : Opened n l) where

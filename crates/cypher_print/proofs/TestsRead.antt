@@ -1,13 +1,12 @@
 -- Printed tests behind an operand are read as these tests.
-use Rattle.std.proofs.Common.{◌≡◌, ◌⊎◌, inl, inr, ℕ, ◌≤◌, List, [], ◌∷◌, ◌++◌, codes, refl, sym, ap, ◌∙◌, subst, arith}
+use Rattle.std.proofs.Common.{◌≡◌, ℕ, ◌≤◌, [], ◌∷◌, codes, refl, sym, ap, ◌∙◌, subst, arith}
 use Rattle.cypher_syntax.specs.declared.tree.expr.Expr.{Expr}
 use Rattle.cypher_syntax.specs.declared.tree.expr.Expr.TheOpen.{PredOp-F}
 use Rattle.cypher_syntax.specs.declared.tree.expr.PredOp.{PredOp, fold-roll-PredOp}
 use Rattle.cypher_syntax.specs.declared.tree.expr.PredOp.TheVariants as test
 use Rattle.cypher_parse.specs.declared.kind.Kind.TheVariants as k
-use Rattle.cypher_parse.specs.Languages.{Tokens, Lang, One, Seq, Map, After, Alt}
 use Rattle.cypher_parse.specs.Expressions.{Inside, Sum, Test, At}
-use Rattle.cypher_print.specs.Pieces.{Pieces, written}
+use Rattle.cypher_print.specs.Pieces.{Pieces}
 use Rattle.cypher_print.specs.Printed.{Placed, expr_level, post_level, pred_level, expr, pred}
 use Rattle.cypher_print.proofs.Holds.{Holds, anything, of_map, of_after, of_alt}
 use Rattle.cypher_print.proofs.Reading.{Read, Apart, begins, after, after_sure, passed_as, mapped, left, right, rewritten}

@@ -1,11 +1,6 @@
 -- Printed clauses that write are read as these clauses.
-use Rattle.std.proofs.Common.{◌≡◌, ◌⊎◌, inl, inr, ℕ, ◌<◌, Bool, true, false, cond, List, [], ◌∷◌, ◌++◌, length, codes, refl, sym, ap, ◌∙◌, append_assoc, arith}
-use Rattle.std.proofs.lemmas.Bool.{false≢true}
-use Rattle.std.proofs.lemmas.Bool.Decides.{nat_tests}
-use Rattle.std.specs.List.{flat_map}
-use Rattle.cypher_syntax.specs.Bytes.{begins_word, is_long_sign}
+use Rattle.std.proofs.Common.{inl, inr, Bool, true, false, [], ◌∷◌, ◌++◌, codes, refl}
 use Rattle.cypher_syntax.specs.declared.tree.expr.Expr.{Expr}
-use Rattle.cypher_syntax.specs.declared.tree.pattern.Pattern.{Pattern}
 use Rattle.cypher_syntax.specs.declared.tree.clause.Clause.TheVariants as clause
 use Rattle.cypher_syntax.specs.declared.tree.clause.Update.{Update}
 use Rattle.cypher_syntax.specs.declared.tree.clause.Update.TheVariants as update
@@ -13,27 +8,18 @@ use Rattle.cypher_syntax.specs.declared.tree.clause.SetItem.{SetItem}
 use Rattle.cypher_syntax.specs.declared.tree.clause.SetItem.TheVariants as set
 use Rattle.cypher_syntax.specs.declared.tree.clause.RemoveItem.{RemoveItem}
 use Rattle.cypher_syntax.specs.declared.tree.clause.RemoveItem.TheVariants as remove
-use Rattle.cypher_parse.specs.declared.kind.Kind.{Kind}
 use Rattle.cypher_parse.specs.declared.kind.Kind.TheVariants as k
-use Rattle.cypher_parse.specs.Spelling.{kind_of}
-use Rattle.cypher_parse.specs.Texts.{or_unknown}
-use Rattle.cypher_parse.specs.Languages.{Tokens, Lang, Seq, Map, After, Listed, Many}
-use Rattle.cypher_parse.specs.Expressions.{Name, Schema, Flag, Labels}
-use Rattle.cypher_parse.specs.Patterns.{NewPath}
-use Rattle.cypher_parse.specs.Clauses.{delete_of, Set, Create, SetClause, Remove, RemoveClause, Delete, Updating}
-use Rattle.cypher_print.specs.Pieces.{Pieces, written, is_word, spelled, quoted, schema, name}
-use Rattle.cypher_print.specs.Printed.{joined, labels, expr}
+use Rattle.cypher_parse.specs.Languages.{Lang}
+use Rattle.cypher_parse.specs.Expressions.{Flag}
+use Rattle.cypher_parse.specs.Clauses.{Set, Create, SetClause, Remove, RemoveClause, Delete, Updating}
+use Rattle.cypher_print.specs.Pieces.{schema, name}
+use Rattle.cypher_print.specs.Printed.{expr}
 use Rattle.cypher_print.specs.QueryText.{pattern, set_item, remove_item, detach_word, update_text}
-use Rattle.cypher_print.specs.ReadBack.{parts_name, parts_sign}
-use Rattle.cypher_print.specs.Sentences.{IsSentence, All, IsName, IsReadIn}
-use Rattle.cypher_print.specs.QuerySentences.{AllSome, IsNewPattern, IsSetItem, IsRemoveItem, IsUpdate}
-use Rattle.cypher_print.proofs.ReadBack.{split}
-use Rattle.cypher_print.proofs.Sentences.{no_token, Passes}
-use Rattle.cypher_print.proofs.Parts.{written-behind, written-both, sign, colon, comma}
-use Rattle.cypher_print.proofs.Reading.{Read, Sure, Token, Apart, begins, turn, seq, seq_sure, after_sure, via, via_sure, mapped, regrouped, left, right, many, many_apart, listed}
+use Rattle.cypher_print.specs.Sentences.{IsName}
+use Rattle.cypher_print.specs.QuerySentences.{IsNewPattern, IsSetItem, IsRemoveItem, IsUpdate}
+use Rattle.cypher_print.proofs.Sentences.{no_token}
+use Rattle.cypher_print.proofs.Reading.{Read, Sure, begins, seq, seq_sure, after_sure, via, via_sure, regrouped, left, right}
 use Rattle.cypher_print.proofs.Words.{create, set as set_word, remove as remove_word, detach, delete, equal}
-use Rattle.cypher_print.proofs.VerticesRead.{name_read}
-use Rattle.cypher_print.proofs.LabelsRead.{Label, schema_name}
 use Rattle.cypher_print.proofs.PartsRead.{a_name, a_schema, some_labels, labels_apart, dotless_schema, dotless_both, after_point, commas, an_expr}
 use Rattle.cypher_print.proofs.NewEdgesRead.{new_pattern}
 

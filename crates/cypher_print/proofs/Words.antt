@@ -10,10 +10,9 @@ use Rattle.cypher_parse.specs.Kinds.{number, member}
 use Rattle.cypher_parse.specs.Spelling.{kind_of}
 use Rattle.cypher_parse.specs.Texts.{or_name, or_unknown, lexeme}
 use Rattle.cypher_parse.specs.Languages.{Lang}
-use Rattle.cypher_print.specs.Pieces.{written, is_word}
+use Rattle.cypher_print.specs.Pieces.{is_word}
 use Rattle.cypher_print.specs.ReadBack.{parts_word, parts_name, parts_sign}
 use Rattle.cypher_print.specs.Sentences.{IsSentence}
-use Rattle.cypher_print.proofs.ReadBack.{split}
 use Rattle.cypher_print.proofs.ReadSigns.{words, long_signs, passed}
 use Rattle.cypher_print.proofs.Sentences.{Passes, passes}
 use Rattle.cypher_print.proofs.Parts.{sign, lone, spaced}
