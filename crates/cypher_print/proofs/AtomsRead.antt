@@ -14,7 +14,7 @@ use Rattle.cypher_print.specs.QuerySentences.{AllSome}
 use Rattle.cypher_print.proofs.PrintLemmas.{print-List, print-Case}
 use Rattle.cypher_print.proofs.Parts.{spaced, written-behind}
 use Rattle.cypher_print.proofs.Holds.{Holds, weaker, of_seq, of_map, of_after, of_before, of_alt, of_opt, of_some, of_listed, of_name}
-use Rattle.cypher_print.proofs.Reading.{Read, Apart, of_sure, begins, apart_both, seq, after, after_sure, before, before_read, via, mapped, left, none, many, many_apart}
+use Rattle.cypher_print.proofs.PiecesRead.{Read, Apart, of_sure, begins, apart_both, seq, after, after_sure, before, before_read, via, mapped, left, none, many, many_apart}
 use Rattle.cypher_print.proofs.PartsRead.{commas, apart_option}
 use Rattle.cypher_print.proofs.ExpressionWords.{case_word, when, then, else_word, end}
 use Rattle.cypher_print.proofs.ExpressionLevels.{Level}

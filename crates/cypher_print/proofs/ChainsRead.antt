@@ -8,7 +8,7 @@ use Rattle.cypher_print.specs.Pieces.{Pieces, written}
 use Rattle.cypher_print.specs.Printed.{expr}
 use Rattle.cypher_print.specs.Sentences.{All}
 use Rattle.cypher_print.proofs.Holds.{Holds, of_map, of_chain}
-use Rattle.cypher_print.proofs.Reading.{Read, Apart, seq, via, rewritten, many, many_apart}
+use Rattle.cypher_print.proofs.PiecesRead.{Read, Apart, seq, via, rewritten, many, many_apart}
 use Rattle.cypher_print.proofs.ExpressionLevels.{Level}
 use Rattle.cypher_print.proofs.PlacedRead.{own, Ready, at_level, looser_place, ready_as}
 

@@ -7,7 +7,7 @@ use Rattle.cypher_parse.specs.Expressions.{Inside, Or, At}
 use Rattle.cypher_print.specs.Pieces.{Pieces}
 use Rattle.cypher_print.specs.Printed.{expr}
 use Rattle.cypher_print.proofs.Holds.{Holds, of_map, of_after}
-use Rattle.cypher_print.proofs.Reading.{Read, via}
+use Rattle.cypher_print.proofs.PiecesRead.{Read, via}
 use Rattle.cypher_print.proofs.ExpressionLevels.{Level, at_most}
 use Rattle.cypher_print.proofs.PlacedRead.{own, Ready, ready_as}
 

@@ -16,6 +16,7 @@ pub mod OperatorsRead
 pub mod Parts
 pub mod PartsRead
 pub mod PatternsHold
+pub mod PiecesRead
 pub mod PlacedRead
 pub mod PrintLemmas
 pub mod PrintedRead
@@ -25,7 +26,6 @@ pub mod QueriesRead
 pub mod ReadBack
 pub mod ReadNumbers
 pub mod ReadSigns
-pub mod Reading
 pub mod ReadingsRead
 pub mod RealTokens
 pub mod Sentences

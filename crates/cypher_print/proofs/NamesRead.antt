@@ -17,7 +17,7 @@ use Rattle.cypher_print.specs.Sentences.{IsName}
 use Rattle.cypher_print.proofs.PrintLemmas.{print-Var}
 use Rattle.cypher_print.proofs.ReadBack.{names}
 use Rattle.cypher_print.proofs.Sentences.{one_token}
-use Rattle.cypher_print.proofs.Reading.{Read}
+use Rattle.cypher_print.proofs.PiecesRead.{Read}
 use Rattle.cypher_print.proofs.PlacedRead.{Ready}
 use Rattle.cypher_print.proofs.InsideRead.{ready_plain}
 

@@ -18,7 +18,7 @@ use Rattle.cypher_print.specs.Pieces.{cmp_text, sum_text, prod_text}
 use Rattle.cypher_print.specs.Printed.{level_at, expr, pred}
 use Rattle.cypher_print.proofs.PrintLemmas.{print-Or, print-Xor, print-And, print-Cmp, print-Pred, print-Sum, print-Prod}
 use Rattle.cypher_print.proofs.Holds.{Holds, anything, of_seq, of_after}
-use Rattle.cypher_print.proofs.Reading.{Read, Apart, begins, seq_sure, after_sure}
+use Rattle.cypher_print.proofs.PiecesRead.{Read, Apart, begins, seq_sure, after_sure}
 use Rattle.cypher_print.proofs.PlacedRead.{Ready, at_level}
 use Rattle.cypher_print.proofs.ChainsRead.{chain}
 use Rattle.cypher_print.proofs.OperatorSigns.{comparison, sum_sign, product_sign}

@@ -8,7 +8,7 @@ use Rattle.cypher_print.specs.Pieces.{Pieces}
 use Rattle.cypher_print.specs.Printed.{level_at, expr}
 use Rattle.cypher_print.proofs.PrintLemmas.{placed}
 use Rattle.cypher_print.proofs.Parts.{left_paren, right_paren}
-use Rattle.cypher_print.proofs.Reading.{Read, Token, of_sure, after_sure, before, via}
+use Rattle.cypher_print.proofs.PiecesRead.{Read, Token, of_sure, after_sure, before, via}
 use Rattle.cypher_print.proofs.ExpressionLevels.{Level, at_most}
 
 -- how tightly its outermost operator binds

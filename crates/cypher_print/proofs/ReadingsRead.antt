@@ -15,7 +15,7 @@ use Rattle.cypher_print.specs.QueryText.{pattern, optional_word, match_text, unw
 use Rattle.cypher_print.specs.ReadBack.{parts_name}
 use Rattle.cypher_print.specs.Sentences.{IsSentence, IsPattern, IsFilter, IsMatch, IsUnwind, IsReading}
 use Rattle.cypher_print.proofs.Sentences.{no_token}
-use Rattle.cypher_print.proofs.Reading.{Read, Sure, begins, seq, seq_sure, after_sure, via, via_sure, left, none}
+use Rattle.cypher_print.proofs.PiecesRead.{Read, Sure, begins, seq, seq_sure, after_sure, via, via_sure, left, none}
 use Rattle.cypher_print.proofs.Words.{match_word, unwind_word, where_word, optional_token, as_word}
 use Rattle.cypher_print.proofs.PartsRead.{a_name, commas, an_expr, apart_option}
 use Rattle.cypher_print.proofs.EdgesRead.{pattern_read}

@@ -17,7 +17,7 @@ use Rattle.cypher_print.specs.QuerySentences.{AllSome}
 use Rattle.cypher_print.proofs.PrintLemmas.{print-Post}
 use Rattle.cypher_print.proofs.Parts.{left_bracket, right_bracket}
 use Rattle.cypher_print.proofs.Holds.{Holds, of_map, of_seq, of_alt, of_opt, of_after, of_before, of_many, of_name, of_some}
-use Rattle.cypher_print.proofs.Reading.{Read, Apart, Token, of_sure, apart_none, begins, apart_both, seq, after_sure, before, via, none, rewritten, many, many_apart}
+use Rattle.cypher_print.proofs.PiecesRead.{Read, Apart, Token, of_sure, apart_none, begins, apart_both, seq, after_sure, before, via, none, rewritten, many, many_apart}
 use Rattle.cypher_print.proofs.PartsRead.{a_schema, some_labels, labels_apart, dotless_schema, after_point}
 use Rattle.cypher_print.proofs.PlacedRead.{Ready, at_level, looser_place, ready_as}
 use Rattle.cypher_print.proofs.InsideRead.{Within, Opened, loose, of_enter, at_one_more}

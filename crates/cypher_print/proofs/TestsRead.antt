@@ -9,7 +9,7 @@ use Rattle.cypher_parse.specs.Expressions.{Inside, Sum, Test, At}
 use Rattle.cypher_print.specs.Pieces.{Pieces}
 use Rattle.cypher_print.specs.Printed.{Placed, expr_level, post_level, pred_level, expr, pred}
 use Rattle.cypher_print.proofs.Holds.{Holds, anything, of_map, of_after, of_alt}
-use Rattle.cypher_print.proofs.Reading.{Read, Apart, begins, after, after_sure, passed_as, mapped, left, right, rewritten}
+use Rattle.cypher_print.proofs.PiecesRead.{Read, Apart, begins, after, after_sure, passed_as, mapped, left, right, rewritten}
 use Rattle.cypher_print.proofs.PlacedRead.{Ready, at_level}
 use Rattle.cypher_print.proofs.OperatorsRead.{ReadyTest}
 use Rattle.cypher_print.proofs.ExpressionWords.{in_word, starts, ends, with_word, contains, is_word, not_behind, null_behind}

@@ -16,7 +16,7 @@ use Rattle.cypher_print.specs.Sentences.{IsSentence}
 use Rattle.cypher_print.proofs.ReadSigns.{words, long_signs, passed}
 use Rattle.cypher_print.proofs.Sentences.{Passes, passes}
 use Rattle.cypher_print.proofs.Parts.{sign, lone, spaced}
-use Rattle.cypher_print.proofs.Reading.{Sure, Token, Word, via}
+use Rattle.cypher_print.proofs.PiecesRead.{Sure, Token, Word, via}
 
 -- in front of a space
 pub trailing : {A : Type 0} (L : Lang A) (a : A) (p behind : List ℕ) → IsSentence L a p (32 ∷ behind) → IsSentence L a (p ++ 32 ∷ []) behind

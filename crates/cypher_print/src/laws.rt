@@ -1,5 +1,5 @@
-//! What later parts may rest on: how what is printed is read. Each law holds in front of any bytes that don't go on with what
-//! is printed, and says that the tokens behind it are those of these bytes.
+//! What later parts may rest on: how what is printed is read. The laws of parts hold in front of any bytes that don't go on
+//! with what is printed, and say that the tokens behind it are those of these bytes. The last two are of whole texts.
 ghost use Rattle.std.specs.Prelude.{◌≡◌, ◌<◌, ◌+◌, ◌^◌, ℕ, true, List, [], ◌∷◌, length, Ok};
 ghost use Rattle.std.specs.Fmt.{decimal};
 ghost use Rattle.cypher_syntax.specs.Bytes.{is_sign, is_long_sign};
