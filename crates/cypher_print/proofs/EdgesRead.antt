@@ -1,5 +1,5 @@
 -- Printed edges and patterns are read as these edges and patterns.
-use Rattle.std.proofs.Common.{◌≡◌, ◌⊎◌, inl, inr, ℕ, true, false, Bool, List, [], ◌∷◌, ◌++◌, codes, Option, Some, None, refl, sym, ap, subst, ◌∙◌, append_assoc}
+use Rattle.std.proofs.Common.{◌≡◌, inl, inr, ℕ, true, false, Bool, List, [], ◌∷◌, ◌++◌, codes, Option, refl, sym, ap, subst, ◌∙◌, append_assoc}
 use Rattle.std.specs.List.{flat_map}
 use Rattle.cypher_syntax.specs.declared.tree.expr.Expr.{Expr}
 use Rattle.cypher_syntax.specs.declared.tree.pattern.Arrow.{Arrow}
@@ -8,11 +8,10 @@ use Rattle.cypher_syntax.specs.declared.tree.pattern.EdgePattern.{EdgePattern}
 use Rattle.cypher_syntax.specs.declared.tree.pattern.NodePattern.{NodePattern}
 use Rattle.cypher_syntax.specs.declared.tree.pattern.Pattern.{Pattern}
 use Rattle.cypher_parse.specs.declared.kind.Kind.TheVariants as k
-use Rattle.cypher_parse.specs.Languages.{Tokens, Lang, Seq, Map, After, Before, Opt, Many}
+use Rattle.cypher_parse.specs.Languages.{Lang, Seq, Map, After, Before, Opt, Many}
 use Rattle.cypher_parse.specs.Expressions.{Schema, Flag}
 use Rattle.cypher_parse.specs.Patterns.{Properties, Details, edge_of, right_or_neither, NameOrNone, Kinds, MapOrNone, Inner, Edge, Node, Path}
 use Rattle.cypher_print.specs.Pieces.{Pieces, written, schema}
-use Rattle.cypher_print.specs.Printed.{joined}
 use Rattle.cypher_print.specs.QueryText.{optional_name, kinds, map_text, before_edge, behind_edge, edge, node, pattern}
 use Rattle.cypher_print.specs.ReadBack.{parts_name, parts_sign}
 use Rattle.cypher_print.specs.Sentences.{IsSentence, All, IsName, IsNameOrNone, IsMapOrNone, IsVertex, IsEdge, IsPattern}
@@ -71,10 +70,10 @@ parted_kinds (y ∷ ys) behind h = ap (λ zs. parts_name (zs ++ behind)) (kinds_
 -- ---- edges
 
 module _ (E : Lang Expr) where
-  abbrev body : Option (List ℕ) → List (List ℕ) → Properties → List ℕ
+  abbrev pub body : Option (List ℕ) → List (List ℕ) → Properties → List ℕ
   body o ys m = written [] (optional_name o) ++ (written [] (kinds ys) ++ written [] (map_text m))
 
-  edge_is : (front back : List ℕ) (o : Option (List ℕ)) (ys : List (List ℕ)) (m : Properties)
+  pub edge_is : (front back : List ℕ) (o : Option (List ℕ)) (ys : List (List ℕ)) (m : Properties)
       → written [] ((front ∷ optional_name o) ++ kinds ys ++ map_text m ++ back ∷ []) ≡ front ++ (body o ys m ++ back)
   edge_is front back o ys m =
       let N = written [] (optional_name o) in
@@ -104,7 +103,7 @@ module _ (E : Lang Expr) where
       (in_turn (Opt [] Kinds) (MapOrNone E) (Seq (Opt [] Kinds) (MapOrNone E)) ys m (ys, m) (λ ts us u v. (ts, us, refl, u, v)) K M behind
       (kinds_read ys (M ++ behind) are map_parts) (map_or_none E m behind map_is))
 
-  abbrev between : Option (List ℕ) → List (List ℕ) → Properties → List ℕ
+  abbrev pub between : Option (List ℕ) → List (List ℕ) → Properties → List ℕ
   between o ys m = ((91 ∷ []) ++ (body o ys m ++ (93 ∷ []))) ++ (45 ∷ [])
 
   inner : (o : Option (List ℕ)) (ys : List (List ℕ)) (m : Properties) (behind : List ℕ) → IsNameOrNone o → All IsName ys → IsMapOrNone E m
@@ -123,7 +122,7 @@ module _ (E : Lang Expr) where
   no_greater : (behind : List ℕ) → IsSentence (Flag k.Greater) false [] behind
   no_greater behind = no_token (Flag k.Greater) false behind (inr (refl, refl))
 
-  a_greater : (behind : List ℕ) → parts_sign 62 behind ≡ true → IsSentence (Flag k.Greater) true (62 ∷ []) behind
+  pub a_greater : (behind : List ℕ) → parts_sign 62 behind ≡ true → IsSentence (Flag k.Greater) true (62 ∷ []) behind
   a_greater behind parts = as_part (Passes (k.Greater ∷ [])) (Flag k.Greater) tt true (λ ts u. inl (u.0, (u.1, u.2), refl)) (62 ∷ []) behind (greater behind parts)
 
   -- with a dash in front
@@ -150,7 +149,7 @@ module _ (E : Lang Expr) where
       (behind_token (k.Minus ∷ []) L d (45 ∷ []) (between o ys m) behind (minus (between o ys m ++ behind)) (inner o ys m behind is are map_is)))
 
   -- the parts between brackets, regrouped
-  regrouped : (D tail : List ℕ) → 45 ∷ 91 ∷ (D ++ (93 ∷ 45 ∷ tail)) ≡ 45 ∷ ((91 ∷ ((D ++ (93 ∷ [])) ++ (45 ∷ []))) ++ tail)
+  pub regrouped : (D tail : List ℕ) → 45 ∷ 91 ∷ (D ++ (93 ∷ 45 ∷ tail)) ≡ 45 ∷ ((91 ∷ ((D ++ (93 ∷ [])) ++ (45 ∷ []))) ++ tail)
   regrouped D tail = ap (λ (zs : List ℕ). 45 ∷ 91 ∷ zs) (sym (append_assoc (D ++ (93 ∷ [])) (45 ∷ []) tail ∙ append_assoc D (93 ∷ []) ((45 ∷ []) ++ tail)))
 
   by_arrow : (o : Option (List ℕ)) (ys : List (List ℕ)) (m : Properties) (a : Arrow) (behind : List ℕ) → IsNameOrNone o → All IsName ys → IsMapOrNone E m → parts_sign 62 behind ≡ true

@@ -1,22 +1,15 @@
 -- Printed labels are read as these labels.
-use Rattle.std.proofs.Common.{◌≡◌, ℕ, ◌<◌, true, List, [], ◌∷◌, ◌++◌, length, codes, refl, sym, ap, subst, ◌∙◌, append_assoc, append-nil}
-use Rattle.cypher_parse.specs.declared.kind.Kind.{Kind}
+use Rattle.std.proofs.Common.{◌≡◌, ℕ, ◌<◌, true, List, [], ◌∷◌, ◌++◌, length, codes, refl, sym, ap, subst, ◌∙◌}
 use Rattle.cypher_parse.specs.declared.kind.Kind.TheVariants as k
-use Rattle.cypher_parse.specs.declared.kinds.TheConstants.{SCHEMA_NAMES}
-use Rattle.cypher_parse.specs.Kinds.{number, member}
-use Rattle.cypher_parse.specs.Spelling.{kind_of}
-use Rattle.cypher_parse.specs.Words.{name_of}
-use Rattle.cypher_parse.specs.Texts.{or_unknown, lexeme_of}
-use Rattle.cypher_parse.specs.Languages.{Tokens, Lang, Valued, After, Many, is_of}
+use Rattle.cypher_parse.specs.Texts.{lexeme_of}
+use Rattle.cypher_parse.specs.Languages.{Lang, After}
 use Rattle.cypher_parse.specs.Expressions.{Schema}
 use Rattle.cypher_parse.specs.Patterns.{LabelsOrNone}
-use Rattle.cypher_print.specs.Pieces.{Pieces, written, schema}
+use Rattle.cypher_print.specs.Pieces.{written, schema}
 use Rattle.cypher_print.specs.Printed.{labels}
-use Rattle.cypher_print.specs.ReadBack.{parts_name, parts_sign, IsReadAs, IsSignOf}
+use Rattle.cypher_print.specs.ReadBack.{parts_name}
 use Rattle.cypher_print.specs.Sentences.{IsSentence, All, IsName}
-use Rattle.cypher_print.proofs.PrintLemmas.{written-append}
 use Rattle.cypher_print.proofs.ReadBack.{schema_names}
-use Rattle.cypher_print.proofs.ReadSigns.{signs}
 use Rattle.cypher_print.proofs.Parts.{written-behind, written-both, colon, behind_token}
 use Rattle.cypher_print.proofs.Sentences.{one_token, no_token, in_turn}
 

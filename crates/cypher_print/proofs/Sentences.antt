@@ -1,9 +1,8 @@
 -- Printed parts, one behind the other, are sentences one behind the other.
-use Rattle.std.proofs.Common.{◌≡◌, ℕ, ◌+◌, ◌-◌, ◌<◌, true, List, [], ◌∷◌, ◌++◌, length, take, drop, map, slice_range, refl, sym, ap, subst, ◌∙◌, append_assoc, arith}
+use Rattle.std.proofs.Common.{◌≡◌, ℕ, ◌+◌, ◌-◌, true, List, [], ◌∷◌, ◌++◌, length, take, drop, map, slice_range, refl, sym, ap, subst, ◌∙◌, append_assoc, arith}
 use Rattle.std.proofs.Math.Seq.{take-append_seam, drop-append_seam}
 use Rattle.std.proofs.lemmas.List.{length-append, map-append}
 use Rattle.cypher_syntax.specs.declared.token.Token.{Token}
-use Rattle.cypher_syntax.specs.declared.token.What.{What}
 use Rattle.cypher_syntax.specs.Lexing.{Lexed, after_tokens, lexed_from}
 use Rattle.cypher_parse.specs.declared.kind.Kind.{Kind}
 use Rattle.cypher_parse.specs.declared.lexeme.Lexeme.{Lexeme}

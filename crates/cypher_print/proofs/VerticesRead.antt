@@ -1,18 +1,17 @@
 -- Printed vertices of patterns are read as these vertices.
-use Rattle.std.proofs.Common.{◌≡◌, ◌⊎◌, inl, inr, ℕ, true, false, List, [], ◌∷◌, ◌++◌, codes, Option, Some, None, refl, sym, ap, subst, ◌∙◌, append_assoc}
+use Rattle.std.proofs.Common.{◌≡◌, inl, inr, ℕ, true, List, [], ◌∷◌, ◌++◌, codes, Option, Some, None, refl, sym, ap, subst, ◌∙◌, append_assoc}
 use Rattle.cypher_syntax.specs.declared.tree.expr.Expr.{Expr}
 use Rattle.cypher_syntax.specs.declared.tree.pattern.NodePattern.{NodePattern}
-use Rattle.cypher_parse.specs.declared.kind.Kind.{Kind}
 use Rattle.cypher_parse.specs.declared.kind.Kind.TheVariants as k
 use Rattle.cypher_parse.specs.Texts.{lexeme_of}
-use Rattle.cypher_parse.specs.Languages.{Tokens, Lang, Seq, Map, After, Before, Opt, Listed}
+use Rattle.cypher_parse.specs.Languages.{Lang, Seq, After, Before, Opt, Listed}
 use Rattle.cypher_parse.specs.Expressions.{Name, Schema}
-use Rattle.cypher_parse.specs.Patterns.{Properties, Details, node_of, NameOrNone, LabelsOrNone, Entry, PropertyMap, MapOrNone, Node}
-use Rattle.cypher_print.specs.Pieces.{Pieces, written, name, schema}
+use Rattle.cypher_parse.specs.Patterns.{Properties, Details, NameOrNone, LabelsOrNone, Entry, PropertyMap, MapOrNone, Node}
+use Rattle.cypher_print.specs.Pieces.{written, name, schema}
 use Rattle.cypher_print.specs.Printed.{joined, labels, expr}
 use Rattle.cypher_print.specs.QueryText.{property, map_text, optional_name, node}
 use Rattle.cypher_print.specs.ReadBack.{parts_name}
-use Rattle.cypher_print.specs.Sentences.{IsSentence, All, IsName, IsNameOrNone, IsReadIn, IsEntry, IsMapOrNone, IsVertex}
+use Rattle.cypher_print.specs.Sentences.{IsSentence, All, IsName, IsNameOrNone, IsEntry, IsMapOrNone, IsVertex}
 use Rattle.cypher_print.proofs.ReadBack.{names}
 use Rattle.cypher_print.proofs.Sentences.{one_token, no_token, in_turn}
 use Rattle.cypher_print.proofs.Parts.{written-behind, written-both, spaced, colon, left_paren, right_paren, left_brace, right_brace, as_part, behind_token, before_token, listed}

@@ -2,8 +2,9 @@ use cypher_parse::parse;
 use cypher_print::{
     labels_are_read_back, least_magnitude_is_read_back, long_signs_are_read_back,
     names_are_read_back, numbers_are_read_back, patterns_are_read_back, print_query,
+    printing_keeps_expressions, printing_keeps_the_tree, queries_are_read_back,
     readings_are_read_back, schema_names_are_read_back, signs_are_read_back, spaces_are_passed,
-    texts_are_read_back, words_are_read_back,
+    texts_are_read_back, updates_are_read_back, words_are_read_back,
 };
 use graph_value::{NoMemory, Text};
 use std::alloc::Global;
@@ -82,5 +83,9 @@ fn printed_forms_of_trees(rt: HostRuntime) -> Result<(), Fail> {
     labels_are_read_back();
     patterns_are_read_back();
     readings_are_read_back();
+    updates_are_read_back();
+    queries_are_read_back();
+    printing_keeps_expressions();
+    printing_keeps_the_tree();
     Ok(())
 }
