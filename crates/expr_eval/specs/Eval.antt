@@ -187,3 +187,6 @@ chosen_of g row first whens = chosen first (map (both g row) whens)
 
 abbrev pub otherwise_of : Graph → Row → Option Value → Option Expr → Outcome Value
 otherwise_of g row v o = otherwise (option_map (eval_of g row) o) v
+
+abbrev pub called_of : Graph → Row → Fun → List Expr → Outcome Value
+called_of g row f es = called g f (map (eval_of g row) es)

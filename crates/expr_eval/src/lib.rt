@@ -10,8 +10,6 @@ mod numbers;
 mod refused;
 mod row;
 mod size;
-#[cfg(test)]
-mod tests;
 mod texts;
 mod truth;
 

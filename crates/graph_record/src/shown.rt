@@ -110,3 +110,6 @@ fn show_edge<G: GraphRead>(id: EdgeId, graph: &mut G) -> Result<Shown, ShowRefus
         None => Err(ShowRefused::Gone(Oid::Edge(id))),
     }
 }
+
+#[cfg(test)]
+mod tests;
