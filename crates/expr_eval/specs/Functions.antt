@@ -1,6 +1,6 @@
 -- Functions of values. All give null of null.
 use Rattle.std.specs.Prelude.{ℕ, zero, suc, ◌-◌, ◌==◌, nat_lt, Bool, true, false, ◌&&◌, List, [], ◌∷◌, length, count_by, codes, ℤ, pos, unsigned_abs, Ok, Err, if◌then◌else◌}
-use Rattle.std.specs.Char.{is_ascii_digit}
+use Rattle.std.specs.Char.{digit_value}
 use Rattle.std.specs.List.{list_all}
 use Rattle.std.specs.Fmt.{signed_decimal}
 use Rattle.std.specs.Str.Parse.{without_leading_sign, signed_digits_value}
@@ -80,7 +80,7 @@ text_of v = text_level (out-Value v)
 -- digits, one or more
 abbrev pub are_digits : List ℕ → Bool
 are_digits [] = false
-are_digits (b ∷ bytes) = list_all is_ascii_digit (b ∷ bytes)
+are_digits (b ∷ bytes) = list_all (λ b. nat_lt (digit_value b) 10) (b ∷ bytes)
 
 -- A text that is digits, maybe behind a sign, is the integer that it writes, where that fits. Any other text is null.
 abbrev pub integer_in : List ℕ → Value

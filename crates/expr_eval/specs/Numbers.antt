@@ -1,5 +1,5 @@
 -- Arithmetic on integers of 64 bits. Null with anything is null.
-use Rattle.std.specs.Prelude.{ℕ, ◌^◌, ◌++◌, nat_lt, Bool, true, false, ℤ, pos, negsuc, neg_ℤ, ◌+ℤ◌, ◌-ℤ◌, ◌*ℤ◌, int_div, int_rem, unsigned_abs, Ok, Err, if◌then◌else◌}
+use Rattle.std.specs.Prelude.{ℕ, ◌^◌, ◌++◌, nat_lt, List, Bool, true, false, ℤ, pos, negsuc, neg_ℤ, ◌+ℤ◌, ◌-ℤ◌, ◌*ℤ◌, int_div, int_rem, unsigned_abs, Ok, Err, if◌then◌else◌}
 use Rattle.std.specs.Ordering.{int_eq}
 use Rattle.graph_value.specs.declared.value.Value.{Value, out-Value}
 use Rattle.graph_value.specs.declared.value.Value.TheVariants as value
@@ -26,16 +26,21 @@ sum_of Plus a b = a +ℤ b
 sum_of Minus a b = a -ℤ b
 
 -- Texts and lists are joined by plus.
-abbrev pub joined_level : SumOp → Value-F Value → Value-F Value → Outcome Value
-joined_level Plus (Value-F.Text a) (Value-F.Text b) = sized (value.Text (a ++ b))
-joined_level Plus (Value-F.List a) (Value-F.List b) = sized (value.List (a ++ b))
-joined_level op v w = Err TypeFault
+abbrev pub text_sum : SumOp → List ℕ → List ℕ → Outcome Value
+text_sum Plus a b = sized (value.Text (a ++ b))
+text_sum Minus a b = Err TypeFault
+
+abbrev pub list_sum : SumOp → List Value → List Value → Outcome Value
+list_sum Plus a b = sized (value.List (a ++ b))
+list_sum Minus a b = Err TypeFault
 
 abbrev pub summed_level : SumOp → Value-F Value → Value-F Value → Outcome Value
 summed_level op Value-F.Null w = Ok value.Null
 summed_level op v Value-F.Null = Ok value.Null
 summed_level op (Value-F.Int a) (Value-F.Int b) = fitted (sum_of op a b)
-summed_level op v w = joined_level op v w
+summed_level op (Value-F.Text a) (Value-F.Text b) = text_sum op a b
+summed_level op (Value-F.List a) (Value-F.List b) = list_sum op a b
+summed_level op v w = Err TypeFault
 
 unfoldable pub summed : SumOp → Value → Value → Outcome Value
 summed op v w = summed_level op (out-Value v) (out-Value w)

@@ -1,5 +1,5 @@
 //! Elements of lists, and lists of integers.
-ghost use Rattle.std.specs.Prelude.{◌≡◌, ◌<◌, ◌^◌, IfOk, negsuc};
+ghost use Rattle.std.specs.Prelude.{◌≡◌, ◌^◌, IfOk, pos, negsuc, ◌+ℤ◌, ◌≤ℤ◌};
 ghost use Rattle.expr_eval.specs.Lists.{element, element_at, counted, count_between, indexed, range};
 ghost use Rattle.expr_eval.specs.Outcome.{Answers};
 ghost use Rattle.expr_eval.specs.Size.{sized};
@@ -7,7 +7,7 @@ ghost use Rattle.graph_value.specs.declared.value.Value.TheVariants as value;
 
 use crate::EvalRefused;
 use crate::size::fits_as_integers;
-use graph_value::{List, Value};
+use graph_value::{List, NoMemory, Value};
 use sqlite_items::Items;
 use std::alloc::Global;
 
@@ -57,24 +57,40 @@ pub(crate) fn indexed(list: Value, at: Value) -> Result<Value, EvalRefused>
     }
 }
 
-fn integers(alloc: Global, first: i64, last: i64) -> Result<Value, EvalRefused>
-    ensures { Answers (sized (value.List (counted first (count_between first last)))) result }
+/// How many integers there are from the first to the last.
+fn count_between(first: i64, last: i64) -> u128
+    ensures { result ≡ count_between first last }
 {
-    let count = if last < first {
+    if last < first {
         0
     } else {
-        (last as i128 - first as i128) as u128 + 1
-    };
-    if !fits_as_integers(count) {
-        return Err(EvalRefused::TooLarge);
+        last.abs_diff(first) as u128 + 1
     }
+}
+
+/// So many integers, from the first on.
+fn counted(alloc: Global, first: i64, count: u128) -> Result<List, NoMemory>
+    requires { (first +ℤ pos count) ≤ℤ pos (2 ^ 63) }
+    ensures { IfOk result (λ items. items ≡ counted first count) }
+{
     let mut items = Items::new(alloc);
     let mut next = first as i128;
-    for _ in 0..count {
+    for made in 0..count {
         items.push(Value::Int(next as i64))?;
         next += 1;
     }
-    Ok(Value::List(items))
+    Ok(items)
+}
+
+/// The integers from the first to the last, unless they are too many. That is asked before they are made.
+fn integers(alloc: Global, first: i64, last: i64) -> Result<Value, EvalRefused>
+    ensures { Answers (sized (value.List (counted first (count_between first last)))) result }
+{
+    let count = count_between(first, last);
+    if !fits_as_integers(count) {
+        return Err(EvalRefused::TooLarge);
+    }
+    Ok(Value::List(counted(alloc, first, count)?))
 }
 
 /// What `range` gives.

@@ -1,5 +1,5 @@
 //! How large a value may be that an operation makes.
-ghost use Rattle.std.specs.Prelude.{◌≡◌, min, ◌^◌, ◌+◌, ◌-◌, ◌++◌, map};
+ghost use Rattle.std.specs.Prelude.{◌≡◌, min, max, nat_le, ◌^◌, ◌+◌, ◌-◌, ◌++◌, map};
 ghost use Rattle.std.specs.List.{sum_by};
 ghost use Rattle.graph_value.specs.Size.{weight_of, depth_of, greatest};
 ghost use Rattle.expr_eval.specs.Size.{is_small, sized};
@@ -36,14 +36,28 @@ fn deepest(items: &[Value]) -> u64
     deepest
 }
 
+fn are_light(front: &[Value], back: &[Value]) -> bool
+    ensures { result ≡ nat_le
+        (1 + (sum_by weight_of front.now + sum_by weight_of back.now)) 1048576 }
+{
+    weights(front).saturating_add(weights(back)) < WEIGHT_LIMIT
+}
+
+fn are_shallow(front: &[Value], back: &[Value]) -> bool
+    ensures { result ≡ nat_le (1 + max (greatest (map depth_of front.now))
+        (greatest (map depth_of back.now))) 64 }
+{
+    deepest(front).max(deepest(back)) < DEPTH_LIMIT
+}
+
 /// Whether the list of these elements, one list behind the other, is small enough.
 pub(crate) fn fits_as_list(front: &[Value], back: &[Value]) -> bool
     ensures { result ≡ is_small (weight_of (value.List (front.now ++ back.now)))
         (depth_of (value.List (front.now ++ back.now))) }
 {
-    let weight = weights(front).saturating_add(weights(back));
-    let depth = deepest(front).max(deepest(back));
-    weight < WEIGHT_LIMIT && depth < DEPTH_LIMIT
+    let light = are_light(front, back);
+    let shallow = are_shallow(front, back);
+    light && shallow
 }
 
 /// A list, unless it is too large.
