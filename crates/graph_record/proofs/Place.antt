@@ -38,14 +38,14 @@ module _ {K : Type 0} {R : K → K → Ordering} (o : IsTotalOrder R) where
 
 module _ {K E : Type 0} {R : K → K → Ordering} (o : IsTotalOrder R) (key : E → K) where
   -- in a tail each place is one lower
-  is_at_tail : (k : K) (e : E) (es : List E) (i : ℕ) → IsAt R key k (e ∷ es) (suc i) → IsAt R key k es i
+  pub is_at_tail : (k : K) (e : E) (es : List E) (i : ℕ) → IsAt R key k (e ∷ es) (suc i) → IsAt R key k es i
   is_at_tail k e es i at = record {
     in_range = omega (arith, at.in_range);
     smaller_before = λ j d low lt. at.smaller_before (suc j) d (omega arith) (omega (arith, lt));
     has_key = λ d. at.has_key d;
   }
 
-  gap_tail : (k : K) (e : E) (es : List E) (i : ℕ) → IsGapFor R key k (e ∷ es) (suc i) → IsGapFor R key k es i
+  pub gap_tail : (k : K) (e : E) (es : List E) (i : ℕ) → IsGapFor R key k (e ∷ es) (suc i) → IsGapFor R key k es i
   gap_tail k e es i gap = record {
     in_range = omega (arith, gap.in_range);
     smaller_before = λ j d low lt. gap.smaller_before (suc j) d (omega arith) (omega (arith, lt));

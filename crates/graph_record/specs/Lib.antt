@@ -8,3 +8,7 @@ pub mod Stored
 pub mod Graph
 pub mod Shared
 pub mod Writing
+pub mod Reading
+pub mod Alive
+pub mod Shown
+pub mod Rows

@@ -1,6 +1,8 @@
 ghost use Rattle.std.specs.Prelude.{◌≡◌};
 ghost use Rattle.graph_record.specs.Graph.{IsCoherent, empty_graph};
 
+mod reading;
+
 use crate::{EdgeRecord, VertexRecord};
 use graph_value::{EdgeId, VertexId};
 use std::alloc::Global;

@@ -5,9 +5,12 @@ ghost use Rattle.serde_json.specs.View.{items_of};
 ghost use Rattle.graph_record.specs.Json.{number_data, value_data, simple_data, ids_data, names_data, properties_data, vertex_data, edge_data, object_data, object_text, IsOfKind};
 ghost use Rattle.graph_record.specs.Writing.{Appends, AppendsMember};
 
+mod rows;
+
 use crate::{EdgeRecord, Object, VertexRecord};
 use graph_value::{EdgeId, Name, NoMemory, Oid, Text, Value, VertexId};
 use json::Writer;
+pub use rows::{push_row_json, to_json};
 use std::alloc::Global;
 use std::mem;
 

@@ -5,3 +5,5 @@
 mod printing;
 #[cfg(test)]
 mod records;
+#[cfg(test)]
+mod showing;

@@ -1,0 +1,11 @@
+pub mod Outcome
+pub mod Row
+pub mod Size
+pub mod Numbers
+pub mod Truth
+pub mod Comparing
+pub mod Texts
+pub mod Lists
+pub mod Entities
+pub mod Functions
+pub mod Eval

@@ -1,0 +1,132 @@
+mod rows;
+mod small;
+
+use crate::CountingReader;
+use cypher_parse::parse;
+use cypher_syntax::{Expr, Query};
+use expr_eval::{EvalRefused, Row, eval};
+use graph_record::{Shown, show, to_json};
+use graph_value::{NoMemory, Oid, Text, Value};
+use rows::ROWS;
+use small::{small_graph, small_row};
+use sqlite_items::Items;
+use std::alloc::Global;
+use std::test::Fail;
+
+/// The expression of `RETURN` and a text.
+fn query_of(alloc: Global, text: &str) -> Result<Option<Query>, NoMemory> {
+    let statement = format!(in alloc; "RETURN {text}")?;
+    match parse(alloc, &Text::from_string(statement)) {
+        Ok(query) => Ok(Some(query)),
+        Err(_) => Ok(None),
+    }
+}
+
+fn expr_of(query: &Query) -> Option<&Expr> {
+    match &query.returns {
+        Some(projection) => match projection.items.get(0) {
+            Some(item) => Some(&item.expr),
+            None => None,
+        },
+        None => None,
+    }
+}
+
+fn refusal(alloc: Global, refused: EvalRefused) -> Result<Text, NoMemory> {
+    match refused {
+        EvalRefused::TypeFault => Text::from_str(alloc, "!type"),
+        EvalRefused::Overflow => Text::from_str(alloc, "!overflow"),
+        EvalRefused::ZeroDivisor => Text::from_str(alloc, "!zero divisor"),
+        EvalRefused::TooLarge => Text::from_str(alloc, "!too large"),
+        EvalRefused::RowLimit => Text::from_str(alloc, "!row limit"),
+        EvalRefused::Gone(x) => Ok(Text::from_string(format!(in alloc; "!gone {x}")?)),
+        EvalRefused::NoMemory => Text::from_str(alloc, "!no memory"),
+    }
+}
+
+fn name_of(value: &Value) -> Option<Oid> {
+    match value {
+        Value::Vertex(v) => Some(Oid::Vertex(*v)),
+        Value::Edge(e) => Some(Oid::Edge(*e)),
+        _ => None,
+    }
+}
+
+/// A vertex or an edge by its name, any other value as it is shown.
+fn value_text(
+    alloc: Global,
+    value: &Value,
+    graph: &mut CountingReader,
+) -> Result<Text, NoMemory> {
+    if let Some(x) = name_of(value) {
+        return Ok(Text::from_string(format!(in alloc; "[{x}]")?));
+    }
+    match show(alloc, value, graph) {
+        Ok(shown) => shown_text(alloc, shown),
+        Err(_) => Text::from_str(alloc, "not shown"),
+    }
+}
+
+fn shown_text(alloc: Global, shown: Shown) -> Result<Text, NoMemory> {
+    let mut row = Items::new(alloc);
+    row.push(shown)?;
+    to_json(alloc, row.as_slice())
+}
+
+fn outcome(
+    alloc: Global,
+    expr: &Expr,
+    row: &Row,
+    graph: &mut CountingReader,
+) -> Result<Text, NoMemory> {
+    match eval(alloc, expr, row, graph) {
+        Ok(value) => value_text(alloc, &value, graph),
+        Err(refused) => refusal(alloc, refused),
+    }
+}
+
+fn text_of(
+    alloc: Global,
+    text: &str,
+    row: &Row,
+    graph: &mut CountingReader,
+) -> Result<Text, NoMemory> {
+    let Some(query) = query_of(alloc, text)? else {
+        return Text::from_str(alloc, "no expression");
+    };
+    match expr_of(&query) {
+        Some(expr) => outcome(alloc, expr, row, graph),
+        None => Text::from_str(alloc, "no expression"),
+    }
+}
+
+/// How a value is written in a row of the table: without the brackets of its row.
+fn is_outcome(found: &str, wanted: &str) -> bool {
+    if wanted.starts_with('!') {
+        return found == wanted;
+    }
+    match found.strip_prefix('[') {
+        Some(rest) => rest.strip_suffix(']') == Some(wanted),
+        None => false,
+    }
+}
+
+/// The first row that comes to something else.
+fn first_wrong(alloc: Global) -> Result<Option<&'static str>, NoMemory> {
+    let mut graph = small_graph(alloc)?;
+    let row = small_row(alloc)?;
+    for (text, wanted) in ROWS.iter() {
+        let found = text_of(alloc, text, &row, &mut graph)?;
+        if !is_outcome(found.as_str(), wanted) {
+            return Ok(Some(*text));
+        }
+    }
+    Ok(None)
+}
+
+#[test]
+fn expressions_come_to_what_the_rows_say(rt: HostRuntime) -> Result<(), Fail> {
+    let wrong = first_wrong(rt.alloc())?;
+    assert!(rt; wrong.is_none(), "{wrong:?}");
+    Ok(())
+}
