@@ -58,3 +58,11 @@ module _ {S : Type 0} (stands : S → Graph → Type 0) (follows : S → S → T
       → IsErrAnd r (λ x. x ≡ e) → Evaluates stands follows whole old new (Err e) → Evaluates stands follows whole old new r
   passes whole old new (Ok a) e h d = absurd h
   passes whole old new (Err x) e h d = subst (λ y. Evaluates stands follows whole old new (Err y)) (sym h) d
+
+  -- what is left is the same as something else
+  pub turns : {A : Type 0} (whole left other : Graph → Outcome A) (old now : S) → Continues stands follows whole left old now → ((g : Graph) → left g ≡ other g) → Continues stands follows whole other old now
+  turns whole left other old now c is = record { same = λ g s. c.same g s ∙ is g; stays = c.stays; reads = c.reads }
+
+  -- nothing is left
+  pub ends : {A : Type 0} (whole : Graph → Outcome A) (old now : S) (a : A) → Continues stands follows whole (λ g. Ok a) old now → Evaluates stands follows whole old now (Ok a)
+  ends whole old now a c = record { answers = c.same; stays = c.stays; reads = c.reads }

@@ -1,9 +1,10 @@
-use Rattle.std.proofs.Common.{◌≡◌, sym, ap, ◌∙◌}
+use Rattle.std.proofs.Common.{◌≡◌, suc, ◌+◌, drop, true, false, Some, sym, ap, ◌∙◌, add-one}
 use Rattle.cypher_syntax.specs.declared.tree.expr.Expr.TheVariants as e
-use Rattle.expr_eval.specs.Eval.{eval_of, compared_of, summed_of, multiplied_of, optional_of, chosen_of, otherwise_of}
+use Rattle.expr_eval.specs.Eval.{some, eval_of, compared_of, summed_of, multiplied_of, optional_of, chosen_of, otherwise_of}
 use Rattle.expr_eval.specs.Outcome.{and_then}
+use Rattle.expr_eval.proofs.Chosen.{tried}
 use Rattle.expr_eval.proofs.Nodes.{eval_cmp, eval_sum, eval_prod, eval_case}
-use Rattle.expr_eval.proofs.Turns.{opens, goes, stops, finishes, passes}
+use Rattle.expr_eval.proofs.Turns.{opens, goes, stops, finishes, passes, turns, ends}
 use Rattle.expr_eval.proofs.evaluate.+eval.Goals as goal
 
 pub eval-returns-in_ok-value-in-Cmp : goal.eval-returns-in_ok-value-in-Cmp
@@ -84,3 +85,48 @@ eval-returns-in_err-chosen-in-Case g t c =
     let refused = c.in_err-chosen-in-Case.field-0.0 in
     passes S F L.itself L.onward (λ w. eval_of w row c.args.expr.now) _ _ _ refused c.from_residual-in_err-chosen-in-Case.ensures.1
       (stops S F L.itself L.onward (λ w. eval_of w row c.args.expr.now) (λ w. chosen_of w row first whens) (λ v w. otherwise_of w row v other) _ _ _ refused begun c.in_err-chosen-in-Case.ensures)
+
+pub chosen-returns-then-branch : goal.chosen-returns-then-branch
+chosen-returns-then-branch g t c =
+    let S = g.G.GraphRead.stands in
+    let F = g.G.GraphRead.follows in
+    let L = g.met.G.GraphRead in
+    let row = c.args.row.now in
+    let first = c.args.first.now in
+    let whens = c.args.whens.now in
+    let i = c.loop-condition.condition-index in
+    let when = c.loop-condition-item.result in
+    ends S F L.itself L.onward (λ w. chosen_of w row first whens) _ _ (Some c.in_ok-eval-2.field-0)
+      (goes S F L.itself L.onward (λ w. chosen_of w row first whens) (λ w. eval_of w row when.1) (λ v w. some v) _ _ _ c.in_ok-eval-2.field-0
+        (tried S F L.itself L.onward row first whens i when _ _ _ c.in_ok-eval.field-0 c.in_ok-holds.field-0 true c.loop-condition-test.true c.loop-condition-item.is c.loop-condition.invariant c.in_ok-eval.ensures c.in_ok-holds.ensures c.if-branch.true)
+        c.in_ok-eval-2.ensures)
+
+pub chosen-returns-in_err-eval-2 : goal.chosen-returns-in_err-eval-2
+chosen-returns-in_err-eval-2 g t c =
+    let S = g.G.GraphRead.stands in
+    let F = g.G.GraphRead.follows in
+    let L = g.met.G.GraphRead in
+    let row = c.args.row.now in
+    let first = c.args.first.now in
+    let whens = c.args.whens.now in
+    let i = c.loop-condition.condition-index in
+    let when = c.loop-condition-item.result in
+    let refused = c.in_err-eval-2.field-0.0 in
+    passes S F L.itself L.onward (λ w. chosen_of w row first whens) _ _ _ refused c.from_residual-in_err-eval-2.ensures.1
+      (stops S F L.itself L.onward (λ w. chosen_of w row first whens) (λ w. eval_of w row when.1) (λ v w. some v) _ _ _ refused
+        (tried S F L.itself L.onward row first whens i when _ _ _ c.in_ok-eval.field-0 c.in_ok-holds.field-0 true c.loop-condition-test.true c.loop-condition-item.is c.loop-condition.invariant c.in_ok-eval.ensures c.in_ok-holds.ensures c.if-branch.true)
+        c.in_err-eval-2.ensures)
+
+pub chosen-loop-condition-preserved : goal.chosen-loop-condition-preserved
+chosen-loop-condition-preserved g t c =
+    let S = g.G.GraphRead.stands in
+    let F = g.G.GraphRead.follows in
+    let L = g.met.G.GraphRead in
+    let row = c.args.row.now in
+    let first = c.args.first.now in
+    let whens = c.args.whens.now in
+    let i = c.loop-condition.condition-index in
+    let when = c.loop-condition-item.result in
+    turns S F L.itself L.onward (λ w. chosen_of w row first whens) (λ w. chosen_of w row first (drop (suc i) whens)) (λ w. chosen_of w row first (drop (i + 1) whens)) _ _
+      (tried S F L.itself L.onward row first whens i when _ _ _ c.in_ok-eval.field-0 c.in_ok-holds.field-0 false c.loop-condition-test.true c.loop-condition-item.is c.loop-condition.invariant c.in_ok-eval.ensures c.in_ok-holds.ensures c.if-branch.false)
+      (λ w. ap (λ n. chosen_of w row first (drop n whens)) (sym (add-one i)))
