@@ -88,7 +88,7 @@ optional None = Ok None
 optional (Some o) = and_then o some
 
 -- A condition holds where it is true; beside a first value, where that equals it.
-abbrev pub holds : Option Value → Value → Outcome Bool
+unfoldable pub holds : Option Value → Value → Outcome Bool
 holds None v = and_then (condition v) (λ t. Ok (is_true t))
 holds (Some first) v = Ok (is_true (equals_of first v))
 

@@ -374,6 +374,7 @@ fn otherwise<G: GraphRead>(
 }
 
 /// Whether a condition of CASE holds: where it is true, or where it equals the first value.
+#[tactic(auto, unfolding(crate::specs::Eval::holds))]
 fn holds(first: &Option<Value>, value: Value) -> Result<bool, EvalRefused>
     ensures { result ≡ spec.holds first.now value }
 {

@@ -53,11 +53,7 @@ fn name_of(value: &Value) -> Option<Oid> {
 }
 
 /// A vertex or an edge by its name, any other value as it is shown.
-fn value_text(
-    alloc: Global,
-    value: &Value,
-    graph: &mut CountingReader,
-) -> Result<Text, NoMemory> {
+fn value_text(alloc: Global, value: &Value, graph: &mut CountingReader) -> Result<Text, NoMemory> {
     if let Some(x) = name_of(value) {
         return Ok(Text::from_string(format!(in alloc; "[{x}]")?));
     }
@@ -127,6 +123,46 @@ fn first_wrong(alloc: Global) -> Result<Option<&'static str>, NoMemory> {
 #[test]
 fn expressions_come_to_what_the_rows_say(rt: HostRuntime) -> Result<(), Fail> {
     let wrong = first_wrong(rt.alloc())?;
+    assert!(rt; wrong.is_none(), "{wrong:?}");
+    Ok(())
+}
+
+/// An expression, the call of the reader that finds no memory, what comes of it, and how often the reader was asked.
+static WANTS: [(&str, u64, &str, u64); 6] = [
+    ("a.k + e.w", 0, "8", 2),
+    ("a.k + e.w", 1, "!no memory", 1),
+    ("a.k + e.w", 2, "!no memory", 2),
+    ("a.k + e.w", 3, "8", 2),
+    ("false AND a.k = 1", 1, "false", 0),
+    ("coalesce(a.k, b.k)", 2, "1", 1),
+];
+
+fn is_asked(
+    alloc: Global,
+    text: &str,
+    wanting: u64,
+    wanted: &str,
+    asked: u64,
+) -> Result<bool, NoMemory> {
+    let mut graph = small_graph(alloc)?;
+    graph.wanting = wanting;
+    let row = small_row(alloc)?;
+    let found = text_of(alloc, text, &row, &mut graph)?;
+    Ok(is_outcome(found.as_str(), wanted) && graph.asked == asked)
+}
+
+fn first_not_asked(alloc: Global) -> Result<Option<&'static str>, NoMemory> {
+    for (text, wanting, wanted, asked) in WANTS.iter() {
+        if !is_asked(alloc, text, *wanting, wanted, *asked)? {
+            return Ok(Some(*text));
+        }
+    }
+    Ok(None)
+}
+
+#[test]
+fn a_reader_is_asked_in_turn_and_may_want_memory(rt: HostRuntime) -> Result<(), Fail> {
+    let wrong = first_not_asked(rt.alloc())?;
     assert!(rt; wrong.is_none(), "{wrong:?}");
     Ok(())
 }

@@ -1,7 +1,7 @@
 -- A reader over two lists stands for the graph of these, and reading leaves them.
 use Rattle.std.proofs.Common.{◌≡◌, refl, ◌∙◌}
 use Rattle.graph_record.specs.Graph.{Graph}
-use Rattle.expr_rows.specs.declared.counting.CountingReader.{CountingReader}
+use Rattle.expr_eval_tests.specs.declared.counting.CountingReader.{CountingReader}
 
 pub record HasParts (r : CountingReader) (g : Graph) : Type 0 where
   pub vertices : g.vertices ≡ r.vertices

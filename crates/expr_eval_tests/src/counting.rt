@@ -1,5 +1,5 @@
 ghost use Rattle.std.specs.Prelude.{◌≡◌, IfOk};
-ghost use Rattle.expr_rows.specs.Counting.{HasParts, SameParts, same_itself, same_onward};
+ghost use Rattle.expr_eval_tests.specs.Counting.{HasParts, SameParts, same_itself, same_onward};
 ghost use Rattle.graph_record.specs.Alive.{first_above};
 ghost use Rattle.graph_record.specs.Alive as above;
 ghost use Rattle.graph_record.specs.Graph.{vertex_cmp, edge_cmp};
