@@ -1,5 +1,5 @@
 -- One turn of CASE: a condition, and then its value or the conditions behind it.
-use Rattle.std.proofs.Common.{◌≡◌, ℕ, zero, suc, ◌<◌, List, [], ◌∷◌, length, drop, get_or, Bool, true, false, cond, Option, Ok, sym, ap, ◌∙◌, refl, arith}
+use Rattle.std.proofs.Common.{◌≡◌, ℕ, zero, suc, ◌<◌, List, [], ◌∷◌, length, drop, get_or, Bool, cond, Option, Ok, sym, ap, ◌∙◌, refl, arith}
 use Rattle.cypher_syntax.specs.declared.tree.expr.Expr.{Expr}
 use Rattle.graph_record.specs.Graph.{Graph}
 use Rattle.graph_record.specs.Reading.{Continues}
@@ -35,8 +35,8 @@ module _ {S : Type 0} (stands : S → Graph → Type 0) (follows : S → S → T
       → Continues stands follows (λ g. chosen_of g row first ws) (λ g. branch g row first p (drop (suc i) ws) t) old mid
   tried row first ws i p old now mid v b t h is c e said so =
       turns stands follows itself onward (λ g. chosen_of g row first ws) (λ g. turn g row first p (drop (suc i) ws) v) (λ g. branch g row first p (drop (suc i) ws) t) old mid
-        (goes stands follows itself onward (λ g. chosen_of g row first ws) (λ g. eval_of g row p.0) (λ x g. turn g row first p (drop (suc i) ws) x) old now mid v
-          (turns stands follows itself onward (λ g. chosen_of g row first ws) (λ g. chosen_of g row first (drop i ws)) (λ g. and_then (eval_of g row p.0) (turn g row first p (drop (suc i) ws))) old now c
-            (λ g. chosen_at g row first ws i p h is))
-          e)
-        (λ g. ap (λ o. and_then o (branch g row first p (drop (suc i) ws))) (sym said) ∙ ap (branch g row first p (drop (suc i) ws)) so)
+      (goes stands follows itself onward (λ g. chosen_of g row first ws) (λ g. eval_of g row p.0) (λ x g. turn g row first p (drop (suc i) ws) x) old now mid v
+      (turns stands follows itself onward (λ g. chosen_of g row first ws) (λ g. chosen_of g row first (drop i ws)) (λ g. and_then (eval_of g row p.0) (turn g row first p (drop (suc i) ws))) old now c
+      (λ g. chosen_at g row first ws i p h is))
+      e)
+      (λ g. ap (λ o. and_then o (branch g row first p (drop (suc i) ws))) (sym said) ∙ ap (branch g row first p (drop (suc i) ws)) so)

@@ -53,11 +53,7 @@ fn name_of(value: &Value) -> Option<Oid> {
 }
 
 /// A vertex or an edge by its name, any other value as it is shown.
-fn value_text(
-    alloc: Global,
-    value: &Value,
-    graph: &mut CountingReader,
-) -> Result<Text, NoMemory> {
+fn value_text(alloc: Global, value: &Value, graph: &mut CountingReader) -> Result<Text, NoMemory> {
     if let Some(x) = name_of(value) {
         return Ok(Text::from_string(format!(in alloc; "[{x}]")?));
     }

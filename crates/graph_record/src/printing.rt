@@ -10,10 +10,9 @@ mod rows;
 use crate::{EdgeRecord, Object, VertexRecord};
 use graph_value::{EdgeId, Name, NoMemory, Oid, Text, Value, VertexId};
 use json::Writer;
+pub use rows::{push_row_json, to_json};
 use std::alloc::Global;
 use std::mem;
-
-pub use rows::{push_row_json, to_json};
 
 /// The text of an object under its id: JSON with no space, the keys of each object in ascending order.
 ///

@@ -50,11 +50,7 @@ impl From<AllocError> for ShowRefused {
 
 /// The value with the record of each entity in its place, as the graph has it.
 #[cycle(show)]
-pub fn show<G: GraphRead>(
-    alloc: Global,
-    value: &Value,
-    graph: &mut G,
-) -> Result<Shown, ShowRefused>
+pub fn show<G: GraphRead>(alloc: Global, value: &Value, graph: &mut G) -> Result<Shown, ShowRefused>
     ensures { Reads G.stands G.follows (λ g. Shows (shown_of g value.now)) graph.old graph.new result }
 {
     match value {

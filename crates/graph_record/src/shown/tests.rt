@@ -31,9 +31,14 @@ fn is_refused(alloc: Global, value: &Value, wanted: ShowRefused) -> bool {
 
 fn shows_values(alloc: Global) -> Result<bool, ShowRefused> {
     let text = Value::Text(Text::from_str(alloc, "a\"b")?);
-    Ok(is_row(alloc, &list(alloc, text, Value::Null)?, "[[\"a\\\"b\",null]]")?
-        && is_row(alloc, &Value::Int(-3), "[-3]")?
-        && is_row(alloc, &Value::Bool(true), "[true]")?)
+    Ok(
+        is_row(
+            alloc,
+            &list(alloc, text, Value::Null)?,
+            "[[\"a\\\"b\",null]]",
+        )? && is_row(alloc, &Value::Int(-3), "[-3]")?
+            && is_row(alloc, &Value::Bool(true), "[true]")?,
+    )
 }
 
 /// The vertex is read before the edge.
