@@ -1,5 +1,5 @@
 -- One turn of CASE: a condition, and then its value or the conditions behind it.
-use Rattle.std.proofs.Common.{◌≡◌, ℕ, zero, suc, ◌<◌, List, [], ◌∷◌, length, drop, get_or, Bool, true, false, cond, Option, Ok, sym, ap, ◌∙◌, refl, arith}
+use Rattle.std.proofs.Common.{◌≡◌, ℕ, zero, suc, ◌<◌, List, [], ◌∷◌, length, drop, get_or, Bool, cond, Option, Ok, sym, ap, ◌∙◌, refl, arith}
 use Rattle.cypher_syntax.specs.declared.tree.expr.Expr.{Expr}
 use Rattle.graph_record.specs.Graph.{Graph}
 use Rattle.graph_record.specs.Reading.{Continues}

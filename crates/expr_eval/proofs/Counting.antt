@@ -1,6 +1,5 @@
 -- Lists of integers that follow one another.
-use Rattle.std.proofs.Common.{◌≡◌, ℕ, suc, ◌+◌, List, [], ◌∷◌, ◌++◌, append_assoc, Bool, true, false, cond, ℤ, pos, ◌+ℤ◌, Ok, Err, refl, sym, ap, ◌∙◌}
-use Rattle.graph_value.specs.Size.{weight_of, depth_of}
+use Rattle.std.proofs.Common.{◌≡◌, ℕ, suc, ◌+◌, List, [], ◌∷◌, ◌++◌, append_assoc, true, false, cond, ℤ, pos, ◌+ℤ◌, Ok, Err, sym, ap, ◌∙◌}
 use Rattle.graph_value.specs.declared.value.Value.{Value}
 use Rattle.graph_value.specs.declared.value.Value.TheVariants as value
 use Rattle.expr_eval.specs.declared.refused.EvalRefused.TheVariants.{TooLarge}

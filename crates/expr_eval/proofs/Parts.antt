@@ -1,5 +1,5 @@
 -- A text that stands in another one.
-use Rattle.std.proofs.Common.{◌≡◌, ℕ, zero, suc, ◌+◌, ◌<◌, List, [], ◌∷◌, length, drop, nat_eq, Bool, false, ◌||◌, refl, sym, ap, ◌∙◌, arith, add-one}
+use Rattle.std.proofs.Common.{◌≡◌, ℕ, zero, suc, ◌+◌, ◌<◌, List, [], ◌∷◌, length, drop, nat_eq, false, ◌||◌, sym, ap, ◌∙◌, arith, add-one}
 use Rattle.std.specs.List.{starts_with}
 use Rattle.expr_eval.specs.Texts.{contains}
 

@@ -1,8 +1,8 @@
 -- The weight and the depth of what operations make.
-use Rattle.std.proofs.Common.{◌≡◌, ℕ, zero, suc, ◌+◌, max, nat_le, Bool, ◌&&◌, List, [], ◌∷◌, ◌++◌, length, map, ℤ, pos, ◌+ℤ◌, refl, sym, ap, ◌∙◌, arith}
+use Rattle.std.proofs.Common.{◌≡◌, ℕ, zero, suc, ◌+◌, max, nat_le, Bool, ◌&&◌, List, [], ◌∷◌, ◌++◌, length, ℤ, pos, ◌+ℤ◌, refl, sym, ap, ◌∙◌, arith}
 use Rattle.std.specs.List.{sum_by}
 use Rattle.std.proofs.lemmas.List.Sums.{sum_by-append, sum_by-cons}
-use Rattle.graph_value.specs.Size.{weight_level, weight_of, depth_level, depth_of, greatest}
+use Rattle.graph_value.specs.Size.{weight_level, weight_of, depth_level, depth_of}
 use Rattle.graph_value.specs.declared.value.Value as values
 use Rattle.graph_value.specs.declared.value.Value.{Value, fold-roll-Value}
 use Rattle.graph_value.specs.declared.value.Value.TheOpen.{Value-F}

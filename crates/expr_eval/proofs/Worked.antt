@@ -1,5 +1,5 @@
 -- Expressions whose values are known.
-use Rattle.std.proofs.Common.{◌≡◌, ℤ, pos, negsuc, List, [], ◌∷◌, true, false, Ok, Err, refl, sym, ap, ◌∙◌}
+use Rattle.std.proofs.Common.{◌≡◌, ℤ, pos, negsuc, [], ◌∷◌, Ok, Err, refl}
 use Rattle.graph_value.specs.declared.value.Value.{Value}
 use Rattle.graph_value.specs.declared.value.Value.TheVariants as value
 use Rattle.graph_value.proofs.Levels.{int_level}

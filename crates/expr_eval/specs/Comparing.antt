@@ -1,7 +1,7 @@
 -- Comparisons, of which each may be unknown.
 use Rattle.std.specs.Prelude.{Bool, true, false, List, [], ◌∷◌, Ok, Err}
 use Rattle.graph_value.specs.declared.tri.Tri.{Tri}
-use Rattle.graph_value.specs.declared.tri.Tri.TheVariants.{True, False, Unknown}
+use Rattle.graph_value.specs.declared.tri.Tri.TheVariants.{False, Unknown}
 use Rattle.graph_value.specs.declared.value.Value.{Value, out-Value}
 use Rattle.graph_value.specs.declared.value.Value.TheVariants as value
 use Rattle.graph_value.specs.declared.value.Value.TheOpen.{Value-F}

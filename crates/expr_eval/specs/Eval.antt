@@ -1,6 +1,6 @@
 -- The value of an expression in a row and a graph. Each operand stands as what it comes to, and one that an operator leaves
 -- out isn't asked for.
-use Rattle.std.specs.Prelude.{ℕ, Bool, true, false, if◌then◌else◌, List, [], ◌∷◌, ◌++◌, Option, Some, None, Ok, Err, map, option_map}
+use Rattle.std.specs.Prelude.{Bool, true, false, if◌then◌else◌, List, [], ◌∷◌, ◌++◌, Option, Some, None, Ok, map, option_map}
 use Rattle.graph_value.specs.declared.tri.Tri.{Tri}
 use Rattle.graph_value.specs.declared.tri.Tri.TheVariants.{True}
 use Rattle.graph_value.specs.declared.value.Value.{Value}

@@ -1,5 +1,5 @@
 -- Arithmetic on integers of 64 bits. Null with anything is null.
-use Rattle.std.specs.Prelude.{ℕ, ◌^◌, ◌++◌, nat_lt, List, Bool, true, false, ℤ, pos, negsuc, neg_ℤ, ◌+ℤ◌, ◌-ℤ◌, ◌*ℤ◌, int_div, int_rem, unsigned_abs, Ok, Err, if◌then◌else◌}
+use Rattle.std.specs.Prelude.{ℕ, ◌^◌, ◌++◌, nat_lt, List, Bool, ℤ, pos, negsuc, neg_ℤ, ◌+ℤ◌, ◌-ℤ◌, ◌*ℤ◌, int_div, int_rem, Ok, Err, if◌then◌else◌}
 use Rattle.std.specs.Ordering.{int_eq}
 use Rattle.graph_value.specs.declared.value.Value.{Value, out-Value}
 use Rattle.graph_value.specs.declared.value.Value.TheVariants as value

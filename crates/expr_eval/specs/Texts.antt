@@ -1,6 +1,6 @@
 -- Tests of texts, byte by byte.
-use Rattle.std.specs.Prelude.{ℕ, nat_eq, nat_lt, nat_le, Bool, ◌||◌, ◌&&◌, List, [], ◌∷◌, not, ◌==◌, length}
-use Rattle.std.specs.List.{starts_with, ends_with, list_all}
+use Rattle.std.specs.Prelude.{ℕ, nat_eq, nat_lt, nat_le, Bool, ◌||◌, List, [], ◌∷◌}
+use Rattle.std.specs.List.{starts_with, ends_with}
 use Rattle.graph_value.specs.declared.value.Value.{Value, out-Value}
 use Rattle.graph_value.specs.declared.value.Value.TheVariants as value
 use Rattle.graph_value.specs.declared.value.Value.TheOpen.{Value-F}

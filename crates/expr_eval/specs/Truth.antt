@@ -1,5 +1,5 @@
 -- Truth values, of which null is the unknown one.
-use Rattle.std.specs.Prelude.{Bool, true, false, Ok, Err, if◌then◌else◌}
+use Rattle.std.specs.Prelude.{Bool, true, false, Ok, Err}
 use Rattle.graph_value.specs.declared.tri.Tri.{Tri}
 use Rattle.graph_value.specs.declared.tri.Tri.TheVariants.{True, False, Unknown}
 use Rattle.graph_value.specs.declared.value.Value.{Value, out-Value}

@@ -1,4 +1,4 @@
-use Rattle.std.proofs.Common.{◌≡◌, ◌+◌, w64, sym, ap, ◌∙◌}
+use Rattle.std.proofs.Common.{◌+◌, w64, sym, ap, ◌∙◌}
 use Rattle.std.specs.Prelude.{FitsSigned}
 use Rattle.std.proofs.lemmas.Int.{to_z-of_z}
 use Rattle.expr_eval.specs.Lists.{counted}
