@@ -28,7 +28,7 @@ pub fn version<U: Undo>(
         (chain_version U.after newest.now chain.now.entries t) t found) }
     ensures finishes { let blocks = (row_of keeper.now row).blocks in
         LeadsOn U.after newest.now chain.now.entries blocks → IfOk result (λ found.
-            found_object U.after found ≡ version_of U.after newest.now chain.now.entries blocks t) }
+        found_object U.after found ≡ version_of U.after newest.now chain.now.entries blocks t) }
 {
     match keeper.locate(row, t) {
         Some(block) => Ok(Found::InBlock(Arc::try_clone(block)?, t)),
