@@ -1,5 +1,5 @@
 -- That what is found finishes to the version.
-use Rattle.std.proofs.Common.{◌≡◌, ℕ, ◌<◌, ◌≤◌, Bool, true, false, nat_lt, ◌||◌, Option, Some, None, List, [], ◌∷◌, ◌++◌, cond, filter, find, refl, sym, ap, subst, ◌∙◌, arith}
+use Rattle.std.proofs.Common.{◌≡◌, ℕ, ◌<◌, ◌≤◌, Bool, true, false, nat_lt, ◌||◌, Option, Some, None, List, [], ◌∷◌, ◌++◌, cond, filter, refl, sym, ap, subst, ◌∙◌, arith}
 use Rattle.std.specs.List.{list_any}
 use Rattle.std.proofs.lemmas.Bool.{false≢true, lt-ltb, ltb-true}
 use Rattle.std.proofs.lemmas.List.{append-nil, append_assoc}
@@ -9,7 +9,7 @@ use Rattle.undo_law.specs.declared.dated.Dated.{Dated}
 use Rattle.version_chain.specs.Entry.{is_after, is_stamp_after}
 use Rattle.version_chain.specs.Parts.{version as chain_version, deltas_of as chain_deltas}
 use Rattle.version_chain.specs.declared.entry.Entry.{Entry}
-use Rattle.anchor_store.specs.Blocks.{AreAnchored, BlockParts, history_of, version}
+use Rattle.anchor_store.specs.Blocks.{BlockParts, history_of, version}
 use Rattle.anchor_store.specs.Groups.{AreAtMost, AreDescending, later}
 use Rattle.anchor_store.proofs.Grown.{history-append, undone-append}
 use Rattle.history_keeper.specs.Rows.{AreInOrder, has_later, located}

@@ -1,7 +1,7 @@
 use Rattle.std.proofs.Common.{◌≡◌, ◌++◌, ◌∷◌, [], ap, sym, subst, ◌∙◌, map, reverse, List}
 use Rattle.std.specs.Arc.{arc_value}
 use Rattle.std.specs.Option.{option_copied}
-use Rattle.anchor_store.specs.Blocks.{BlockParts, anchored, older_deltas}
+use Rattle.anchor_store.specs.Blocks.{anchored, older_deltas}
 use Rattle.anchor_store.specs.Groups.{joined_all, groups}
 use Rattle.anchor_store.proofs.Grouped.{joined_all-append}
 use Rattle.anchor_store.proofs.Made.{AreBlocks, groups_blocks}
