@@ -2,16 +2,18 @@
 use Rattle.std.proofs.Common.{◌≡◌, ℕ, ◌-◌, ◌<◌, ◌≤◌, Bool, true, false, nat_lt, Option, Some, None, is_some, List, [], ◌∷◌, ◌++◌, length, take, reverse, if◌then◌else◌, slice_get, refl, sym, ap, ◌∙◌, subst, arith}
 use Rattle.std.specs.List.{flat_map}
 use Rattle.std.proofs.lemmas.Bool.{ltb-true, le-ltb}
-use Rattle.std.proofs.lemmas.List.{append-nil, reverse-append, reverse-reverse, length-append}
+use Rattle.std.proofs.lemmas.List.{append_assoc, append-nil, reverse-append, reverse-reverse, length-append}
+use Rattle.std.proofs.lemmas.Grind.{flat_map-append}
 use Rattle.std.proofs.lemmas.Option.{slice_get-get_or}
 use Rattle.std.proofs.Math.Seq.{get_or-append_seam, take-append_seam}
 use Rattle.undo_law.specs.declared.dated.Dated.{Dated}
 use Rattle.undo_law.specs.Undone.{undone, deltas_of}
-use Rattle.anchor_store.specs.Blocks.{BlockParts, anchored, blocks, history_of, newest_of, older_deltas, smaller_than, staying}
+use Rattle.anchor_store.specs.Blocks.{AreAnchored, BlockParts, anchored, blocks, history_of, newest_of, older_deltas, smaller_than, staying}
 use Rattle.anchor_store.specs.Groups.{AreFull, AreSized, joined, joined_all, groups}
 use Rattle.anchor_store.proofs.Grouped.{joined_all-append, groups_parts, groups_alone, groups_so}
 
-undone-append : {O D : Type 0} (after : O → D → O) (x : O) (newer older : List (Dated D)) → undone after x (deltas_of (newer ++ older)) ≡ undone after (undone after x (deltas_of newer)) (deltas_of older)
+-- the newer deltas are undone first
+pub undone-append : {O D : Type 0} (after : O → D → O) (x : O) (newer older : List (Dated D)) → undone after x (deltas_of (newer ++ older)) ≡ undone after (undone after x (deltas_of newer)) (deltas_of older)
 undone-append after x [] older = refl
 undone-append after x (d ∷ newer) older = undone-append after (after x d.delta) newer older
 
@@ -25,6 +27,11 @@ anchored-append {O} {D} after x (g ∷ newer) older =
 anchored_deltas : {O D : Type 0} (after : O → D → O) (x : O) (gs : List (List (Dated D))) → flat_map (λ block. block.deltas) (anchored after x gs) ≡ flat_map (λ g. g) gs
 anchored_deltas after x [] = refl
 anchored_deltas after x (g ∷ gs) = ap (λ l. g ++ l) (anchored_deltas after (undone after x (deltas_of g)) gs)
+
+-- the deltas of newer blocks stand before those of older ones
+pub history-append : {O D : Type 0} (older newer : List (BlockParts O D)) → history_of (older ++ newer) ≡ history_of newer ++ history_of older
+history-append older newer =
+    ap (λ bs. flat_map (λ block. block.deltas) bs) (reverse-append older newer) ∙ flat_map-append (λ block. block.deltas) (reverse newer) (reverse older)
 
 -- the deltas of the blocks are the deltas again
 pub blocks_deltas : {O D : Type 0} (after : O → D → O) (k : ℕ) (x : O) (ds : List (Dated D)) → history_of (blocks after k x ds) ≡ ds
@@ -109,3 +116,29 @@ grown_from {O} {D} after k x base newer history (g ∷ gs) is whole =
 pub blocks_grown : {O D : Type 0} (after : O → D → O) (k : ℕ) (x : O) (newer history : List (Dated D)) → let before = blocks after k (undone after x (deltas_of newer)) history in let filled = smaller_than k (newest_of before) in blocks after k x (newer ++ history) ≡ staying (is_some filled) before ++ blocks after k x (newer ++ older_deltas filled)
 blocks_grown after k x newer history =
     grown_from after k x (undone after x (deltas_of newer)) newer history (groups k history) refl refl
+
+first_same : {X : Type 0} (x y : X) (xs ys : List X) → x ∷ xs ≡ y ∷ ys → x ≡ y
+first_same x y xs ys h = cc
+
+others_same : {X : Type 0} (x y : X) (xs ys : List X) → x ∷ xs ≡ y ∷ ys → xs ≡ ys
+others_same x y xs ys h = cc
+
+anchor_behind : {O D : Type 0} (after : O → D → O) (x : O) (gs : List (List (Dated D))) (front rest : List (BlockParts O D)) (b : BlockParts O D) → anchored after x gs ≡ front ++ b ∷ rest → b.anchor ≡ undone after x (deltas_of (flat_map (λ block. block.deltas) front))
+anchor_behind after x [] [] rest b parted = absurd (cc)
+anchor_behind after x [] (y ∷ front) rest b parted = absurd (cc)
+anchor_behind {O} {D} after x (g ∷ gs) [] rest b parted =
+    let first : BlockParts O D = record { anchor = x; deltas = g } in
+    sym (ap (λ (c : BlockParts O D). c.anchor) (first_same first b (anchored after (undone after x (deltas_of g)) gs) rest parted))
+anchor_behind {O} {D} after x (g ∷ gs) (y ∷ front) rest b parted =
+    let first : BlockParts O D = record { anchor = x; deltas = g } in
+    let behind = anchored after (undone after x (deltas_of g)) gs in
+    let here : g ≡ y.deltas = ap (λ (c : BlockParts O D). c.deltas) (first_same first y behind (front ++ b ∷ rest) parted) in
+    let deltas = flat_map (λ block. block.deltas) front in
+    anchor_behind after (undone after x (deltas_of g)) gs front rest b (others_same first y behind (front ++ b ∷ rest) parted) ∙ sym (undone-append after x g deltas) ∙ ap (λ ds. undone after x (deltas_of (ds ++ deltas))) here
+
+-- the anchor of a block is the object with all deltas of newer blocks undone
+pub blocks_anchored : {O D : Type 0} (after : O → D → O) (k : ℕ) (x : O) (ds : List (Dated D)) → AreAnchored after x (blocks after k x ds)
+blocks_anchored after k x ds older newer b parted =
+    let whole = anchored after x (groups k ds) in
+    let turned = sym (reverse-reverse whole) ∙ ap reverse parted ∙ reverse-append older (b ∷ newer) ∙ ap (λ bs. bs ++ reverse older) (reverse-cons b newer) ∙ append_assoc (reverse newer) (b ∷ []) (reverse older) in
+    anchor_behind after x (groups k ds) (reverse newer) (reverse older) b turned

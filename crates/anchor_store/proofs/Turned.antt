@@ -27,7 +27,12 @@ turned-joined {D} {A} k n d gs g v count last pushed smaller =
     let joins : joined k d (reverse g.items ∷ turned front) ≡ (d ∷ reverse g.items) ∷ turned front = rw room refl in
     written ∙ turned-push front v ∙ ap (λ xs. xs ∷ turned front) longer ∙ sym joins ∙ ap (joined k d) (sym (ap turned whole ∙ turned-push front g))
 
-pub map-reverse : {X Y : Type 0} (f : X → Y) (xs : List X) → map f (reverse xs) ≡ reverse (map f xs)
+map-reverse : {X Y : Type 0} (f : X → Y) (xs : List X) → map f (reverse xs) ≡ reverse (map f xs)
 map-reverse f [] = refl
 map-reverse f (x ∷ xs) =
     ap (map f) (reverse-append (x ∷ []) xs) ∙ map-append f (reverse xs) (x ∷ []) ∙ ap (λ ys. ys ++ f x ∷ []) (map-reverse f xs) ∙ sym (reverse-append (f x ∷ []) (map f xs))
+
+-- what is built, the newest first, with its last one, and then turned round
+pub map-turned : {X Y : Type 0} (f : X → Y) (built pushed turned : List X) (x : X) (y : Y) (whole : List Y) → pushed ≡ built ++ x ∷ [] → f x ≡ y → map f built ++ y ∷ [] ≡ whole → turned ≡ reverse pushed → map f turned ≡ reverse whole
+map-turned f built pushed turned x y whole last is all round =
+    ap (map f) round ∙ map-reverse f pushed ∙ ap reverse (ap (map f) last ∙ map-append f built (x ∷ []) ∙ ap (λ z. map f built ++ z ∷ []) is ∙ all)

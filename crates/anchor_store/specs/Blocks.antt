@@ -1,5 +1,5 @@
 -- The blocks of an object's history. Here `after x d` is the object x after the delta d.
-use Rattle.std.specs.Prelude.{ℕ, ◌<◌, ◌-◌, Bool, nat_lt, Option, Some, None, List, [], ◌∷◌, if◌then◌else◌, length, reverse, slice_get, take}
+use Rattle.std.specs.Prelude.{◌≡◌, ◌++◌, ℕ, ◌<◌, ◌-◌, Bool, nat_lt, Option, Some, None, List, [], ◌∷◌, if◌then◌else◌, length, reverse, slice_get, take}
 use Rattle.std.specs.List.{flat_map}
 use Rattle.undo_law.specs.Undone.{undone, deltas_of}
 use Rattle.undo_law.specs.declared.dated.Dated.{Dated}
@@ -49,3 +49,7 @@ staying replaces blocks = if replaces then take (length blocks - 1) blocks else 
 -- all deltas of blocks, of which the oldest stands first; the newest delta first
 abbrev pub history_of : {O D : Type 0} → List (BlockParts O D) → List (Dated D)
 history_of blocks = flat_map (λ block. block.deltas) (reverse blocks)
+
+-- the anchor of each block is the object with all deltas of newer blocks undone; the oldest block stands first
+abbrev pub AreAnchored : {O D : Type 0} → (O → D → O) → O → List (BlockParts O D) → Type 0
+AreAnchored {O} {D} after newest blocks = (older newer : List (BlockParts O D)) (b : BlockParts O D) → blocks ≡ older ++ b ∷ newer → b.anchor ≡ undone after newest (deltas_of (history_of newer))

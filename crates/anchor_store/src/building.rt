@@ -12,7 +12,8 @@ use std::sync::Arc;
 use undo_law::{Dated, DatedDeltas, Tail, Undo};
 
 /// Builds the blocks of the deltas of a tail, which are newer, and of a block that is smaller than the interval, where
-/// there is one: the deltas are grouped by the interval from the oldest on. The oldest block comes first.
+/// there is one: the deltas are grouped by the interval from the oldest on. The oldest block comes first. At an interval of
+/// 0 each delta has a block of its own, as at 1. It undoes no delta of the oldest block.
 pub fn build<U: Undo>(
     alloc: Global,
     older: Option<&Block<U>>,
@@ -26,13 +27,19 @@ pub fn build<U: Undo>(
     let Tail { newest, deltas } = tail;
     let mut groups = older_groups::<U>(alloc, older, interval)?;
     groups.add_all(alloc, deltas, interval)?;
-    let mut built = Vec::with_capacity(alloc, groups.len())?;
-    let mut object = newest;
-    while let Some(deltas) = groups.pop_newest() {
-        let anchor = U::copy_object(alloc, &object)?;
-        undo_all::<U>(alloc, &mut object, &deltas)?;
+    let Some(newest_deltas) = groups.pop_newest() else {
+        return Ok(Vec::new(alloc));
+    };
+    let mut built = Vec::with_capacity(alloc, groups.len() + 1)?;
+    let mut anchor = newest;
+    let mut deltas = newest_deltas;
+    while let Some(older_deltas) = groups.pop_newest() {
+        let older_anchor = led_back::<U>(alloc, &anchor, &deltas)?;
         built.push(Arc::new(alloc, Block::of(anchor, deltas))?)?;
+        anchor = older_anchor;
+        deltas = older_deltas;
     }
+    built.push(Arc::new(alloc, Block::of(anchor, deltas))?)?;
     built.reverse();
     Ok(built)
 }
@@ -74,16 +81,17 @@ fn copies<U: Undo>(
     Ok(copies)
 }
 
-/// Undoes the deltas on the object.
-fn undo_all<U: Undo>(
+/// The object that the deltas lead back to.
+fn led_back<U: Undo>(
     alloc: Global,
-    object: &mut U::Object,
+    object: &U::Object,
     deltas: &DatedDeltas<U::Delta>,
-) -> Result<(), NoMemory>
-    ensures { OnOk result (object.new ≡ undone U.after object.old (deltas_of deltas.now)) }
+) -> Result<U::Object, NoMemory>
+    ensures { IfOk result (λ older. older ≡ undone U.after object.now (deltas_of deltas.now)) }
 {
+    let mut older = U::copy_object(alloc, object)?;
     for dated in deltas.as_slice() {
-        U::apply(alloc, object, &dated.delta)?;
+        U::apply(alloc, &mut older, &dated.delta)?;
     }
-    Ok(())
+    Ok(older)
 }

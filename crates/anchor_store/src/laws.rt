@@ -2,7 +2,7 @@
 ghost use Rattle.std.specs.Prelude.{◌≡◌, ℕ, ◌<◌, ◌++◌, List, is_some};
 ghost use Rattle.undo_law.specs.Undone.{undone, deltas_of};
 ghost use Rattle.undo_law.specs.declared.dated.Dated.{Dated};
-ghost use Rattle.anchor_store.specs.Blocks.{blocks, history_of, newest_of, older_deltas, smaller_than, staying};
+ghost use Rattle.anchor_store.specs.Blocks.{AreAnchored, blocks, history_of, newest_of, older_deltas, smaller_than, staying};
 ghost use Rattle.anchor_store.specs.Groups.{AreGroupsOf, groups};
 
 use undo_law::Undo;
@@ -19,6 +19,12 @@ pub fn groups_part_the_deltas<D>()
 pub fn blocks_have_the_deltas<U: Undo>()
     ensures { (k : ℕ) (newest : U.Object) (ds : List (Dated U.Delta)) →
         history_of (blocks U.after k newest ds) ≡ ds }
+{}
+
+/// The anchor of a block is the object with all deltas of newer blocks undone.
+pub fn anchors_are_led_to<U: Undo>()
+    ensures { (k : ℕ) (newest : U.Object) (ds : List (Dated U.Delta)) →
+        AreAnchored U.after newest (blocks U.after k newest ds) }
 {}
 
 /// Newer deltas change nothing but the newest block, and that only where it is smaller than the interval: the others

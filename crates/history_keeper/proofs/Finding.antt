@@ -1,14 +1,14 @@
 -- Where the oldest block with a delta later than an instant stands.
-use Rattle.std.proofs.Common.{◌≡◌, ℕ, ◌+◌, ◌-◌, ◌<◌, ◌≤◌, zero, suc, Bool, true, false, nat_lt, ◌||◌, Option, Some, None, List, [], ◌∷◌, ◌++◌, length, get_or, take, drop, map, reverse, slice_get, find, refl, sym, ap, subst, ◌∙◌, arith, below_more}
-use Rattle.std.specs.List.{flat_map, list_any, position_or_len}
-use Rattle.std.proofs.lemmas.Bool.{le-ltb, lt-ltb, ltb-false, ltb-true}
-use Rattle.std.proofs.lemmas.Grind.{flat_map-append}
-use Rattle.std.proofs.lemmas.List.{append-nil, append_assoc, drop_more, get_or-map, get_or-take, get_or_default, length-take-le, reverse-append, take-append-drop}
+use Rattle.std.proofs.Common.{◌≡◌, ℕ, ◌+◌, ◌<◌, ◌≤◌, true, false, nat_lt, Some, List, [], ◌∷◌, ◌++◌, length, get_or, take, drop, map, slice_get, refl, sym, ap, subst, ◌∙◌, arith, below_more}
+use Rattle.std.specs.List.{list_any}
+use Rattle.std.proofs.lemmas.Bool.{le-ltb, lt-ltb}
+use Rattle.std.proofs.lemmas.List.{append-nil, append_assoc, drop_more, get_or-map, get_or-take, get_or_default, length-take-le, take-append-drop}
 use Rattle.std.proofs.lemmas.List.Folds.{find_at}
 use Rattle.std.proofs.lemmas.List.Sums.{position_or_len_is}
 use Rattle.undo_law.specs.declared.dated.Dated.{Dated}
 use Rattle.anchor_store.specs.Blocks.{BlockParts, history_of}
 use Rattle.anchor_store.specs.Groups.{AreAtMost, AreDescending}
+use Rattle.anchor_store.proofs.Grown.{history-append}
 use Rattle.history_keeper.specs.Rows.{AreInOrder, has_later, located}
 
 -- no block before a place has a later delta
@@ -48,10 +48,6 @@ some_later t ts [] newest late = absurd (cc)
 some_later t ts (d ∷ ds) newest late =
     let later : nat_lt t d.ts ≡ true = ap (λ s. nat_lt t s) (some_is d.ts ts newest) ∙ lt-ltb t ts late in
     rw later refl
-
-history-append : {O D : Type 0} (older newer : List (BlockParts O D)) → history_of (older ++ newer) ≡ history_of newer ++ history_of older
-history-append older newer =
-    ap (λ bs. flat_map (λ block. block.deltas) bs) (reverse-append older newer) ∙ flat_map-append (λ block. block.deltas) (reverse newer) (reverse older)
 
 -- the oldest blocks of a row in order are in order
 pub in_order-take : {O D : Type 0} (n : ℕ) (blocks : List (BlockParts O D)) → AreInOrder blocks → AreInOrder (take n blocks)

@@ -58,8 +58,9 @@ impl<U: Undo> Keeper<U> {
     /// logarithm of their number.
     pub fn locate(&self, row: u64, t: u64) -> Option<&Arc<Block<U>>>
         requires { row < length self.now }
-        ensures { option_map arc_value (option_copied result)
+        ensures value { option_map arc_value (option_copied result)
             ≡ located t (row_of self.now row).blocks }
+        ensures in_order { AreInOrder (row_of self.now row).blocks }
     {
         self.rows[row as usize].locate(t)
     }

@@ -70,7 +70,8 @@ impl<U: Undo> Row<U> {
 
     /// The oldest block that has a delta later than t. Looks at no more blocks than the logarithm of their number.
     pub fn locate(&self, t: u64) -> Option<&Arc<Block<U>>>
-        ensures { option_map arc_value (option_copied result) ≡ located t self.now.blocks }
+        ensures value { option_map arc_value (option_copied result) ≡ located t self.now.blocks }
+        ensures in_order { AreInOrder self.now.blocks }
     {
         let mut low = 0;
         let mut high = self.blocks.len();

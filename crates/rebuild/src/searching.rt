@@ -1,5 +1,7 @@
-ghost use Rattle.std.specs.Prelude.{◌<◌, IfOk, length};
+ghost use Rattle.std.specs.Prelude.{◌≡◌, ◌<◌, IfOk, length};
+ghost use Rattle.anchor_store.specs.Found.{found_object};
 ghost use Rattle.history_keeper.specs.Rows.{located, row_of};
+ghost use Rattle.rebuild.specs.Line.{LeadsOn, version_of};
 ghost use Rattle.rebuild.specs.Search.{IsFound};
 ghost use Rattle.version_chain.specs.Parts.{version as chain_version};
 
@@ -22,8 +24,11 @@ pub fn version<U: Undo>(
     t: u64,
 ) -> Result<Found<U>, NoMemory>
     requires { row < length keeper.now }
-    ensures { IfOk result (λ found. IsFound (located t (row_of keeper.now row).blocks)
+    ensures found { IfOk result (λ found. IsFound (located t (row_of keeper.now row).blocks)
         (chain_version U.after newest.now chain.now.entries t) t found) }
+    ensures finishes { let blocks = (row_of keeper.now row).blocks in
+        LeadsOn U.after newest.now chain.now.entries blocks → IfOk result (λ found.
+        found_object U.after found ≡ version_of U.after newest.now chain.now.entries blocks t) }
 {
     match keeper.locate(row, t) {
         Some(block) => Ok(Found::InBlock(Arc::try_clone(block)?, t)),

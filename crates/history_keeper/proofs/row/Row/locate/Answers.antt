@@ -41,8 +41,8 @@ loop-low-preserved g c =
       at = some_at c.args.t c.newest_stamp.result blocks m b here c.newest_stamp.ensures.first c.if-newest_stamp-t.false;
     }
 
-pub returns : goal.returns
-returns g c =
+pub returns-clause-value : goal.returns-clause-value
+returns-clause-value g c =
     let blocks = c.args.self.now.blocks in
     let same : c.loop-low.high ≡ c.loop-low.low = omega (arith, c.loop-low-test.false, c.loop-low.invariant.ends) in
     c.block.ensures ∙ sym (located_at c.args.t c.loop-low.low blocks (omega (arith, c.loop-low.invariant.within)) c.loop-low.invariant.before (rw (← same) c.loop-low.invariant.at))
