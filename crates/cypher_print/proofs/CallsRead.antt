@@ -23,7 +23,7 @@ use Rattle.cypher_print.proofs.ReadSigns.{words}
 use Rattle.cypher_print.proofs.Sentences.{one_token}
 use Rattle.cypher_print.proofs.Holds.{Holds, anything, of_seq, of_map, of_after, of_before, of_alt, of_empty, of_listed, IsFunction, of_function}
 use Rattle.cypher_print.proofs.PiecesRead.{Read, of_sure, begins, seq, seq_sure, after_sure, before, via, mapped, passed_as, left, right, rewritten}
-use Rattle.cypher_print.proofs.Words.{parts_too, star}
+use Rattle.cypher_print.proofs.WordsRead.{parts_too, star}
 use Rattle.cypher_print.proofs.PartsRead.{comma_token, commas}
 use Rattle.cypher_print.proofs.ProjectionsRead.{distinct_read}
 use Rattle.cypher_print.proofs.PlacedRead.{Ready, open_paren, close_paren}

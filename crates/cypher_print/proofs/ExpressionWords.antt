@@ -3,7 +3,7 @@ use Rattle.std.proofs.Common.{[], ◌∷◌, codes, refl}
 use Rattle.cypher_parse.specs.declared.kind.Kind.TheVariants as k
 use Rattle.cypher_parse.specs.Spelling.{kind_of}
 use Rattle.cypher_print.proofs.PiecesRead.{Token, Word}
-use Rattle.cypher_print.proofs.Words.{front, between, back, alone}
+use Rattle.cypher_print.proofs.WordsRead.{front, between, back, alone}
 
 pub or_word : Token (k.Or ∷ []) (codes " OR " ∷ [])
 unfolding kind_of

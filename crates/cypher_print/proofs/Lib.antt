@@ -35,4 +35,4 @@ pub mod StepsRead
 pub mod TestsRead
 pub mod UpdatesRead
 pub mod VerticesRead
-pub mod Words
+pub mod WordsRead

@@ -22,7 +22,7 @@ use Rattle.cypher_print.proofs.ReadNumbers.{numbers}
 use Rattle.cypher_print.proofs.Sentences.{one_token}
 use Rattle.cypher_print.proofs.Holds.{Holds, anything, of_map, of_alt, of_integer}
 use Rattle.cypher_print.proofs.PiecesRead.{Read, via, mapped, passed_as, left, right}
-use Rattle.cypher_print.proofs.Words.{parts_too}
+use Rattle.cypher_print.proofs.WordsRead.{parts_too}
 use Rattle.cypher_print.proofs.ExpressionWords.{true_word, false_word, null_word}
 use Rattle.cypher_print.proofs.PlacedRead.{Ready}
 use Rattle.cypher_print.proofs.InsideRead.{ready_plain}

@@ -20,7 +20,7 @@ use Rattle.cypher_print.specs.ReadBack.{parts_sign, IsReadAs, IsSignOf}
 use Rattle.cypher_print.proofs.ReadSigns.{signs, long_signs}
 use Rattle.cypher_print.proofs.Sentences.{one_token}
 use Rattle.cypher_print.proofs.PiecesRead.{Sure}
-use Rattle.cypher_print.proofs.Words.{spaced_out}
+use Rattle.cypher_print.proofs.WordsRead.{spaced_out}
 
 module _ {A : Type 0} (kinds : List Kind) (of : Kind → A) (kind : Kind) (known : member (number kind) kinds ≡ true) where
   abbrev Operator : Lang A

@@ -21,7 +21,7 @@ use Rattle.cypher_print.proofs.ReadBack.{split}
 use Rattle.cypher_print.proofs.Sentences.{Passes}
 use Rattle.cypher_print.proofs.Parts.{written-behind, written-both, sign, colon, comma}
 use Rattle.cypher_print.proofs.PiecesRead.{Read, Token, Apart, apart_none, begins, turn, seq, after_sure, mapped, many, many_apart, listed}
-use Rattle.cypher_print.proofs.Words.{trailing}
+use Rattle.cypher_print.proofs.WordsRead.{trailing}
 use Rattle.cypher_print.proofs.VerticesRead.{name_read}
 use Rattle.cypher_print.proofs.LabelsRead.{Label, schema_name}
 

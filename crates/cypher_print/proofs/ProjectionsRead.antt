@@ -20,7 +20,7 @@ use Rattle.cypher_print.proofs.PrintLemmas.{print-Var}
 use Rattle.cypher_print.proofs.ReadNumbers.{numbers}
 use Rattle.cypher_print.proofs.Sentences.{one_token, no_token}
 use Rattle.cypher_print.proofs.PiecesRead.{Read, Sure, Apart, apart_none, begins, apart_both, seq, seq_sure, after_sure, via, via_sure, rewritten, left, right, none}
-use Rattle.cypher_print.proofs.Words.{parts_too, distinct, star, order, by, desc, skip, limit, as_word}
+use Rattle.cypher_print.proofs.WordsRead.{parts_too, distinct, star, order, by, desc, skip, limit, as_word}
 use Rattle.cypher_print.proofs.PartsRead.{a_name, commas, an_expr, apart_count, apart_option}
 use Rattle.cypher_print.proofs.ReadingsRead.{where_read}
 

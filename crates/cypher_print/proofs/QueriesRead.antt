@@ -21,7 +21,7 @@ use Rattle.cypher_print.specs.Sentences.{IsSentence, All, IsReading}
 use Rattle.cypher_print.specs.QuerySentences.{IsUpdating, IsStage, IsEnd, IsEnding, IsTime, IsWholeQuery}
 use Rattle.cypher_print.proofs.Parts.{written-both}
 use Rattle.cypher_print.proofs.PiecesRead.{Read, Sure, begins, seq, seq_sure, seq_all, after_sure, after_all, via, via_sure, rewritten, rewritten_sure, many_sure, none_sure}
-use Rattle.cypher_print.proofs.Words.{trailing, with_word, return_word, tt_word, snapshot, between_word, and_word, semicolon}
+use Rattle.cypher_print.proofs.WordsRead.{trailing, with_word, return_word, tt_word, snapshot, between_word, and_word, semicolon}
 use Rattle.cypher_print.proofs.ReadingsRead.{clause_read}
 use Rattle.cypher_print.proofs.UpdatesRead.{updating}
 use Rattle.cypher_print.proofs.ProjectionsRead.{a_number, returned, passed}

@@ -16,7 +16,7 @@ use Rattle.cypher_print.specs.ReadBack.{parts_name}
 use Rattle.cypher_print.specs.Sentences.{IsSentence, IsPattern, IsFilter, IsMatch, IsUnwind, IsReading}
 use Rattle.cypher_print.proofs.Sentences.{no_token}
 use Rattle.cypher_print.proofs.PiecesRead.{Read, Sure, begins, seq, seq_sure, after_sure, via, via_sure, left, none}
-use Rattle.cypher_print.proofs.Words.{match_word, unwind_word, where_word, optional_token, as_word}
+use Rattle.cypher_print.proofs.WordsRead.{match_word, unwind_word, where_word, optional_token, as_word}
 use Rattle.cypher_print.proofs.PartsRead.{a_name, commas, an_expr, apart_option}
 use Rattle.cypher_print.proofs.EdgesRead.{pattern_read}
 

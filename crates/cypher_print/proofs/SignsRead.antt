@@ -19,7 +19,7 @@ use Rattle.cypher_print.proofs.Sentences.{one_token}
 use Rattle.cypher_print.proofs.Parts.{sign, lone, minus}
 use Rattle.cypher_print.proofs.Holds.{Holds, anything, weaker, of_map, of_alt}
 use Rattle.cypher_print.proofs.PiecesRead.{Read, Token, after_sure, via, mapped, left, right, rewritten}
-use Rattle.cypher_print.proofs.Words.{parts_too}
+use Rattle.cypher_print.proofs.WordsRead.{parts_too}
 use Rattle.cypher_print.proofs.ExpressionWords.{not_word}
 use Rattle.cypher_print.proofs.PlacedRead.{own, Ready, looser_place}
 use Rattle.cypher_print.proofs.InsideRead.{WithinAt, Opened, of_enter, ready_inside}

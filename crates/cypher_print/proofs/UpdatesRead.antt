@@ -19,7 +19,7 @@ use Rattle.cypher_print.specs.Sentences.{IsName}
 use Rattle.cypher_print.specs.QuerySentences.{IsNewPattern, IsSetItem, IsRemoveItem, IsUpdate}
 use Rattle.cypher_print.proofs.Sentences.{no_token}
 use Rattle.cypher_print.proofs.PiecesRead.{Read, Sure, begins, seq, seq_sure, after_sure, via, via_sure, regrouped, left, right}
-use Rattle.cypher_print.proofs.Words.{create, set as set_word, remove as remove_word, detach, delete, equal}
+use Rattle.cypher_print.proofs.WordsRead.{create, set as set_word, remove as remove_word, detach, delete, equal}
 use Rattle.cypher_print.proofs.PartsRead.{a_name, a_schema, some_labels, labels_apart, dotless_schema, dotless_both, after_point, commas, an_expr}
 use Rattle.cypher_print.proofs.NewEdgesRead.{new_pattern}
 
