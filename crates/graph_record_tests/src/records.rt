@@ -161,7 +161,7 @@ fn copies_of_records_hold_the_same(rt: HostRuntime) -> Result<(), Fail> {
 }
 
 #[test]
-#[tactic(auto, using(crate::proofs::Graphs::empty_coherent))]
+#[tactic(auto, using(graph_record::proofs::Graphs::empty_coherent))]
 fn a_graph_may_be_empty(rt: HostRuntime) -> Result<(), Fail> {
     let alloc = rt.alloc();
     let _empty = Graph::new(alloc);
