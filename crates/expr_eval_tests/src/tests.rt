@@ -7,7 +7,11 @@ use cypher_syntax::{Expr, Query};
 use expr_eval::{EvalRefused, Row, eval};
 use graph_record::{Shown, show, to_json};
 use graph_value::{NoMemory, Oid, Text, Value};
-use rows::ROWS;
+use rows::{
+    CHOICES, CONVERSIONS, EDGES, ELEMENTS, EQUALITY, IDS_AND_LABELS, IN_LISTS, KEYS, LABEL_TESTS,
+    LEFT_OUT, LITERALS, ORDER, PRODUCTS, PROPERTIES, RANGES, Row as Wanted, SIGNS, SIZES, SUMS,
+    TEXTS, TRUTH,
+};
 use small::{small_graph, small_row};
 use sqlite_items::Items;
 use std::alloc::Global;
@@ -108,10 +112,10 @@ fn is_outcome(found: &str, wanted: &str) -> bool {
 }
 
 /// The first row that comes to something else.
-fn first_wrong(alloc: Global) -> Result<Option<&'static str>, NoMemory> {
+fn first_wrong(alloc: Global, rows: &[Wanted]) -> Result<Option<&'static str>, NoMemory> {
     let mut graph = small_graph(alloc)?;
     let row = small_row(alloc)?;
-    for (text, wanted) in ROWS.iter() {
+    for (text, wanted) in rows {
         let found = text_of(alloc, text, &row, &mut graph)?;
         if !is_outcome(found.as_str(), wanted) {
             return Ok(Some(*text));
@@ -121,8 +125,141 @@ fn first_wrong(alloc: Global) -> Result<Option<&'static str>, NoMemory> {
 }
 
 #[test]
-fn expressions_come_to_what_the_rows_say(rt: HostRuntime) -> Result<(), Fail> {
-    let wrong = first_wrong(rt.alloc())?;
+fn literals_and_names(rt: HostRuntime) -> Result<(), Fail> {
+    let wrong = first_wrong(rt.alloc(), &LITERALS)?;
+    assert!(rt; wrong.is_none(), "{wrong:?}");
+    Ok(())
+}
+
+#[test]
+fn sums(rt: HostRuntime) -> Result<(), Fail> {
+    let wrong = first_wrong(rt.alloc(), &SUMS)?;
+    assert!(rt; wrong.is_none(), "{wrong:?}");
+    Ok(())
+}
+
+#[test]
+fn products(rt: HostRuntime) -> Result<(), Fail> {
+    let wrong = first_wrong(rt.alloc(), &PRODUCTS)?;
+    assert!(rt; wrong.is_none(), "{wrong:?}");
+    Ok(())
+}
+
+#[test]
+fn signs(rt: HostRuntime) -> Result<(), Fail> {
+    let wrong = first_wrong(rt.alloc(), &SIGNS)?;
+    assert!(rt; wrong.is_none(), "{wrong:?}");
+    Ok(())
+}
+
+#[test]
+fn truth_of_three_values(rt: HostRuntime) -> Result<(), Fail> {
+    let wrong = first_wrong(rt.alloc(), &TRUTH)?;
+    assert!(rt; wrong.is_none(), "{wrong:?}");
+    Ok(())
+}
+
+#[test]
+fn operands_that_are_left_out(rt: HostRuntime) -> Result<(), Fail> {
+    let wrong = first_wrong(rt.alloc(), &LEFT_OUT)?;
+    assert!(rt; wrong.is_none(), "{wrong:?}");
+    Ok(())
+}
+
+#[test]
+fn equality(rt: HostRuntime) -> Result<(), Fail> {
+    let wrong = first_wrong(rt.alloc(), &EQUALITY)?;
+    assert!(rt; wrong.is_none(), "{wrong:?}");
+    Ok(())
+}
+
+#[test]
+fn order_and_chains_of_comparisons(rt: HostRuntime) -> Result<(), Fail> {
+    let wrong = first_wrong(rt.alloc(), &ORDER)?;
+    assert!(rt; wrong.is_none(), "{wrong:?}");
+    Ok(())
+}
+
+#[test]
+fn elements_that_are_looked_for(rt: HostRuntime) -> Result<(), Fail> {
+    let wrong = first_wrong(rt.alloc(), &IN_LISTS)?;
+    assert!(rt; wrong.is_none(), "{wrong:?}");
+    Ok(())
+}
+
+#[test]
+fn tests_of_texts_and_null(rt: HostRuntime) -> Result<(), Fail> {
+    let wrong = first_wrong(rt.alloc(), &TEXTS)?;
+    assert!(rt; wrong.is_none(), "{wrong:?}");
+    Ok(())
+}
+
+#[test]
+fn elements_by_place(rt: HostRuntime) -> Result<(), Fail> {
+    let wrong = first_wrong(rt.alloc(), &ELEMENTS)?;
+    assert!(rt; wrong.is_none(), "{wrong:?}");
+    Ok(())
+}
+
+#[test]
+fn properties(rt: HostRuntime) -> Result<(), Fail> {
+    let wrong = first_wrong(rt.alloc(), &PROPERTIES)?;
+    assert!(rt; wrong.is_none(), "{wrong:?}");
+    Ok(())
+}
+
+#[test]
+fn tests_of_labels(rt: HostRuntime) -> Result<(), Fail> {
+    let wrong = first_wrong(rt.alloc(), &LABEL_TESTS)?;
+    assert!(rt; wrong.is_none(), "{wrong:?}");
+    Ok(())
+}
+
+#[test]
+fn ids_and_labels(rt: HostRuntime) -> Result<(), Fail> {
+    let wrong = first_wrong(rt.alloc(), &IDS_AND_LABELS)?;
+    assert!(rt; wrong.is_none(), "{wrong:?}");
+    Ok(())
+}
+
+#[test]
+fn what_an_edge_tells(rt: HostRuntime) -> Result<(), Fail> {
+    let wrong = first_wrong(rt.alloc(), &EDGES)?;
+    assert!(rt; wrong.is_none(), "{wrong:?}");
+    Ok(())
+}
+
+#[test]
+fn keys(rt: HostRuntime) -> Result<(), Fail> {
+    let wrong = first_wrong(rt.alloc(), &KEYS)?;
+    assert!(rt; wrong.is_none(), "{wrong:?}");
+    Ok(())
+}
+
+#[test]
+fn sizes_ends_and_amounts(rt: HostRuntime) -> Result<(), Fail> {
+    let wrong = first_wrong(rt.alloc(), &SIZES)?;
+    assert!(rt; wrong.is_none(), "{wrong:?}");
+    Ok(())
+}
+
+#[test]
+fn conversions(rt: HostRuntime) -> Result<(), Fail> {
+    let wrong = first_wrong(rt.alloc(), &CONVERSIONS)?;
+    assert!(rt; wrong.is_none(), "{wrong:?}");
+    Ok(())
+}
+
+#[test]
+fn ranges_and_their_size(rt: HostRuntime) -> Result<(), Fail> {
+    let wrong = first_wrong(rt.alloc(), &RANGES)?;
+    assert!(rt; wrong.is_none(), "{wrong:?}");
+    Ok(())
+}
+
+#[test]
+fn choices(rt: HostRuntime) -> Result<(), Fail> {
+    let wrong = first_wrong(rt.alloc(), &CHOICES)?;
     assert!(rt; wrong.is_none(), "{wrong:?}");
     Ok(())
 }

@@ -1,6 +1,9 @@
 //! Expressions, and what each comes to by the rules: a value as JSON, an entity by its name, a refusal behind `!`.
 
-pub(crate) static ROWS: [(&str, &str); 280] = [
+/// An expression, and what it comes to.
+pub(crate) type Row = (&'static str, &'static str);
+
+pub(crate) static LITERALS: [Row; 11] = [
     ("1", "1"),
     ("-9223372036854775808", "-9223372036854775808"),
     ("'a'", "\"a\""),
@@ -12,6 +15,9 @@ pub(crate) static ROWS: [(&str, &str); 280] = [
     ("e", "e0"),
     ("[]", "[]"),
     ("[1, 'a', [null]]", "[1,\"a\",[null]]"),
+];
+
+pub(crate) static SUMS: [Row; 19] = [
     ("1 + 2", "3"),
     ("1 - 2 - 3", "-4"),
     ("x + 1", "6"),
@@ -31,6 +37,9 @@ pub(crate) static ROWS: [(&str, &str); 280] = [
     ("9223372036854775807 + 1 - 1", "!overflow"),
     ("1 + 'a' + 1/0", "!type"),
     ("'a' + 1/0", "!zero divisor"),
+];
+
+pub(crate) static PRODUCTS: [Row; 21] = [
     ("2 * 3", "6"),
     ("7 / 2", "3"),
     ("-7 / 2", "-3"),
@@ -52,6 +61,9 @@ pub(crate) static ROWS: [(&str, &str); 280] = [
     ("'a' * (1/0)", "!zero divisor"),
     ("2 + 3 * 4", "14"),
     ("(2 + 3) * 4", "20"),
+];
+
+pub(crate) static SIGNS: [Row; 8] = [
     ("-x", "-5"),
     ("+x", "5"),
     ("- -x", "5"),
@@ -60,6 +72,9 @@ pub(crate) static ROWS: [(&str, &str); 280] = [
     ("-'a'", "!type"),
     ("+'a'", "!type"),
     ("- -9223372036854775808", "!overflow"),
+];
+
+pub(crate) static TRUTH: [Row; 16] = [
     ("true AND false", "false"),
     ("true AND null", "null"),
     ("false AND null", "false"),
@@ -76,6 +91,9 @@ pub(crate) static ROWS: [(&str, &str); 280] = [
     ("NOT true", "false"),
     ("NOT null", "null"),
     ("NOT 1", "!type"),
+];
+
+pub(crate) static LEFT_OUT: [Row; 14] = [
     ("false AND 1", "false"),
     ("true OR 1", "true"),
     ("true AND 1", "!type"),
@@ -90,6 +108,9 @@ pub(crate) static ROWS: [(&str, &str); 280] = [
     ("null AND 1/0 = 1", "!zero divisor"),
     ("true AND true AND false", "false"),
     ("false XOR true XOR true", "false"),
+];
+
+pub(crate) static EQUALITY: [Row; 16] = [
     ("1 = 1", "true"),
     ("1 = 2", "false"),
     ("1 = 'a'", "false"),
@@ -106,6 +127,9 @@ pub(crate) static ROWS: [(&str, &str); 280] = [
     ("a = b", "false"),
     ("a = e", "false"),
     ("gone = gone", "true"),
+];
+
+pub(crate) static ORDER: [Row; 19] = [
     ("1 < 2", "true"),
     ("2 <= 2", "true"),
     ("3 > 2", "true"),
@@ -125,6 +149,9 @@ pub(crate) static ROWS: [(&str, &str); 280] = [
     ("1 < null < 1/0", "!zero divisor"),
     ("1 < null < 0", "null"),
     ("3 > 2 > 1 = 1", "true"),
+];
+
+pub(crate) static IN_LISTS: [Row; 11] = [
     ("1 IN [1, 2]", "true"),
     ("3 IN [1, 2]", "false"),
     ("1 IN [2, null]", "null"),
@@ -136,6 +163,9 @@ pub(crate) static ROWS: [(&str, &str); 280] = [
     ("1 IN 1", "!type"),
     ("null IN 1", "!type"),
     ("[1] IN [[1]]", "true"),
+];
+
+pub(crate) static TEXTS: [Row; 16] = [
     ("'abc' STARTS WITH 'ab'", "true"),
     ("'abc' STARTS WITH 'b'", "false"),
     ("'abc' ENDS WITH 'bc'", "true"),
@@ -152,6 +182,9 @@ pub(crate) static ROWS: [(&str, &str); 280] = [
     ("1 IS NOT NULL", "true"),
     ("n IS NOT NULL", "false"),
     ("1 IN [1] IS NULL", "false"),
+];
+
+pub(crate) static ELEMENTS: [Row; 15] = [
     ("[1, 2, 3][0]", "1"),
     ("[1, 2, 3][2]", "3"),
     ("[1, 2, 3][3]", "null"),
@@ -167,6 +200,9 @@ pub(crate) static ROWS: [(&str, &str); 280] = [
     ("'abc'[0]", "!type"),
     ("[[1, 2], [3]][0][1]", "2"),
     ("[1][1/0]", "!zero divisor"),
+];
+
+pub(crate) static PROPERTIES: [Row; 11] = [
     ("a.k", "1"),
     ("a.l", "[1,2]"),
     ("a.l[1]", "2"),
@@ -178,6 +214,9 @@ pub(crate) static ROWS: [(&str, &str); 280] = [
     ("[a][0].t", "\"abc\""),
     ("gone.k", "!gone v2"),
     ("lost.w", "!gone e1"),
+];
+
+pub(crate) static LABEL_TESTS: [Row; 9] = [
     ("a:A", "true"),
     ("a:A:B", "true"),
     ("a:A:C", "false"),
@@ -187,6 +226,9 @@ pub(crate) static ROWS: [(&str, &str); 280] = [
     ("lost:A", "!type"),
     ("gone:A", "!gone v2"),
     ("1:A", "!type"),
+];
+
+pub(crate) static IDS_AND_LABELS: [Row; 11] = [
     ("id(a)", "0"),
     ("id(e)", "0"),
     ("id(gone)", "2"),
@@ -198,6 +240,9 @@ pub(crate) static ROWS: [(&str, &str); 280] = [
     ("labels(e)", "!type"),
     ("labels(lost)", "!type"),
     ("labels(gone)", "!gone v2"),
+];
+
+pub(crate) static EDGES: [Row; 10] = [
     ("type(e)", "\"T\""),
     ("type(a)", "!type"),
     ("type(gone)", "!type"),
@@ -208,12 +253,18 @@ pub(crate) static ROWS: [(&str, &str); 280] = [
     ("endNode(lost)", "!gone e1"),
     ("startNode(n)", "null"),
     ("startNode(a)", "!type"),
+];
+
+pub(crate) static KEYS: [Row; 6] = [
     ("keys(a)", "[\"k\",\"l\",\"t\"]"),
     ("keys(e)", "[\"w\"]"),
     ("keys(b)", "[]"),
     ("keys(gone)", "!gone v2"),
     ("keys(n)", "null"),
     ("keys(1)", "!type"),
+];
+
+pub(crate) static SIZES: [Row; 17] = [
     ("size('abc')", "3"),
     ("size('h\\u00e9')", "2"),
     ("size('')", "0"),
@@ -231,6 +282,9 @@ pub(crate) static ROWS: [(&str, &str); 280] = [
     ("abs(-9223372036854775808)", "!overflow"),
     ("abs(null)", "null"),
     ("abs('a')", "!type"),
+];
+
+pub(crate) static CONVERSIONS: [Row; 20] = [
     ("toString(-12)", "\"-12\""),
     ("toString('a')", "\"a\""),
     ("toString(true)", "\"true\""),
@@ -251,6 +305,9 @@ pub(crate) static ROWS: [(&str, &str); 280] = [
     ("toInteger(4)", "4"),
     ("toInteger(null)", "null"),
     ("toInteger(true)", "!type"),
+];
+
+pub(crate) static RANGES: [Row; 15] = [
     ("range(1, 3)", "[1,2,3]"),
     ("range(3, 1)", "[]"),
     ("range(2, 2)", "[2]"),
@@ -272,6 +329,9 @@ pub(crate) static ROWS: [(&str, &str); 280] = [
     ("range(1, 1048575) + [1]", "!too large"),
     ("[range(1, 1048575)]", "!too large"),
     ("[range(1, 1048574), 1/0]", "!zero divisor"),
+];
+
+pub(crate) static CHOICES: [Row; 15] = [
     ("coalesce(null, 2, 1/0)", "2"),
     ("coalesce(null, null)", "null"),
     ("coalesce(1/0, 2)", "!zero divisor"),
