@@ -34,8 +34,15 @@ impl<U: Undo> Block<U> {
         Block { anchor, deltas }
     }
 
-    /// The deltas, the newest first.
-    pub(crate) fn deltas(&self) -> &[Dated<U::Delta>]
+    /// The object after the newest delta. Takes no memory.
+    pub fn anchor(&self) -> &U::Object
+        ensures { result.now ≡ self.now.anchor }
+    {
+        &self.anchor
+    }
+
+    /// The deltas, the newest first. Takes no memory.
+    pub fn deltas(&self) -> &[Dated<U::Delta>]
         ensures value { result.now ≡ self.now.deltas }
         ensures form { IsBlock self.now.deltas }
     {

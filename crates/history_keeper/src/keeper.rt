@@ -43,6 +43,13 @@ impl<U: Undo> Keeper<U> {
         }
     }
 
+    /// The number of rows. Takes no memory.
+    pub fn rows(&self) -> u64
+        ensures { result ≡ length self.now }
+    {
+        self.rows.len() as u64
+    }
+
     /// Adds a row without blocks, of the cut 0, and gives its number. Without memory the rows stay as they were.
     pub fn add_row(&mut self, alloc: Global) -> Result<u64, NoMemory>
         ensures number { IfOk result (λ row. row ≡ length self.old) }

@@ -82,7 +82,7 @@ none_located_by t b newer rest true here none = absurd (cc)
 none_located_by t b newer rest false here none =
     ap (later t) (history-cons b newer) ∙ filter-append (λ d. nat_lt t d.ts) (history_of newer) b.deltas ∙ ap (λ ds. ds ++ later t b.deltas) (rest none) ∙ later-none t b.deltas here
 
-none_located : {O D : Type 0} (t : ℕ) (blocks : List (BlockParts O D)) → located t blocks ≡ None → later t (history_of blocks) ≡ []
+pub none_located : {O D : Type 0} (t : ℕ) (blocks : List (BlockParts O D)) → located t blocks ≡ None → later t (history_of blocks) ≡ []
 none_located t [] none = refl
 none_located t (b ∷ newer) none = none_located_by t b newer (none_located t newer) (has_later t b) refl none
 

@@ -11,7 +11,7 @@ use Rattle.undo_delta.specs.declared.op.Op.{Op}
 use Rattle.undo_delta.specs.declared.ask.Ask.{Ask}
 use Rattle.undo_delta.specs.declared.ask.Ask.TheVariants.{CreateVertex, DeleteVertex, AddLabel, RemoveLabel, SetVertexProp, CreateEdge, DeleteEdge, SetEdgeProp}
 use Rattle.world_model.specs.declared.event.Event.TheVariants as event
-use Rattle.world_model.specs.declared.answer.Answer.TheVariants as answer
+use Rattle.world_model.specs.Reply as reply
 use Rattle.world_model.specs.declared.answer.Refused.{Refused}
 use Rattle.world_model.specs.Op.{apply, changes, SameObjects}
 use Rattle.world_model.specs.World.{World, Txn, txn_of, InOrder, fold_of, before, ops_of, view_of, graph_at}
@@ -51,7 +51,7 @@ pub view_form : (w : World) (c : ℕ) (p : Txn) (x : Oid) → InOrder w → txn_
 view_form w c p x o f = writes_form p.ops (fold_of (before p.start w.commits)) x (o.running_sound c p f) (base_form w p.start x o)
 
 -- a write that changes the graph isn't answered as one that doesn't
-wrote_something : (w : World) (ask : Ask) → answer.Wrote (wrote_of w ask) ≡ unchanged → ⊥
+wrote_something : (w : World) (ask : Ask) → reply.Wrote (wrote_of w ask) ≡ unchanged → ⊥
 wrote_something w CreateVertex e = cc
 wrote_something w (DeleteVertex v) e = cc
 wrote_something w (AddLabel v name) e = cc

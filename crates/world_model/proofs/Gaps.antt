@@ -34,4 +34,4 @@ abbrev pub maker : Txn
 maker = record { caller = 1; start = 5; ops = op.CreateVertex v4 ∷ [] }
 
 abbrev pub gaps : World
-gaps = record { clock = 6; vertices = 5; edges = 3; commits = gap_commits; running = maker ∷ [] }
+gaps = record { clock = 6; vertices = 5; edges = 3; commits = gap_commits; running = maker ∷ []; interval = 1; installs = [] }

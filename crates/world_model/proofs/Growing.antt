@@ -1,35 +1,39 @@
 -- What a step adds to the commits stands at the clock or above, so nothing changes that stood below.
-use Rattle.std.proofs.Common.{◌≡◌, ℕ, ◌+◌, ◌<◌, ◌≤◌, List, [], ◌∷◌, ◌++◌, Option, Some, None, Bool, true, false, ◌&&◌, cond, refl, sym, ap, subst, ◌∙◌, arith, filter}
-use Rattle.std.specs.Prelude.{nat_lt, nat_le, map, reverse}
+use Rattle.std.proofs.Common.{◌≡◌, ℕ, ◌<◌, ◌≤◌, List, [], ◌∷◌, ◌++◌, Option, Some, None, Bool, true, false, cond, refl, sym, ap, ◌∙◌, arith, filter}
+use Rattle.std.specs.Prelude.{nat_eq, nat_lt, nat_le, reverse}
 use Rattle.std.specs.List.{list_all}
 use Rattle.std.proofs.lemmas.Bool.Decides.{nat_tests}
-use Rattle.std.proofs.lemmas.List.{append_assoc, append-nil, reverse-append}
+use Rattle.std.proofs.lemmas.List.{append_assoc, append-nil}
 use Rattle.std.proofs.lemmas.List.Elements.{filter-append}
 use Rattle.std.proofs.lemmas.List.Folds.{list_all-append}
 use Rattle.graph_value.specs.declared.id.Oid.{Oid}
 use Rattle.graph_record.specs.Graph.{Graph, empty_graph}
 use Rattle.txn_manager.specs.declared.refusals.BeginRefused.{BeginRefused}
 use Rattle.txn_manager.specs.Transactions.{begin_refusal}
-use Rattle.undo_law.specs.declared.dated.Dated.{Dated}
 use Rattle.undo_delta.specs.declared.ask.Ask.{Ask}
 use Rattle.undo_delta.specs.declared.delta.Delta.{Delta}
 use Rattle.undo_delta.specs.declared.op.Op.{Op}
-use Rattle.world_model.specs.declared.answer.Answer.{Answer}
+use Rattle.world_model.specs.Reply.{Reply}
+use Rattle.world_model.specs.Reply as reply
 use Rattle.world_model.specs.declared.answer.Refused.{Refused}
+use Rattle.world_model.specs.declared.answer.Refused.TheVariants.{Missing, Stale}
+use Rattle.world_model.specs.Pieces.{PieceParts}
 use Rattle.world_model.specs.declared.event.Event.{Event}
 use Rattle.world_model.specs.declared.event.Event.TheVariants as event
 use Rattle.world_model.specs.declared.event.Kind.{Kind}
 use Rattle.world_model.specs.declared.event.When.{When}
-use Rattle.world_model.specs.Op.{apply_all, changes}
-use Rattle.world_model.specs.World.{World, Commit, Txn, InOrder, Start, start_world, txn_of, transactions_of, view_of, graph_at, fold_of, ops_of, mark}
+use Rattle.world_model.specs.Op.{apply_all, changes, is_given}
+use Rattle.world_model.specs.World.{World, Commit, Txn, Start, start_world, txn_of, transactions_of, view_of, graph_at, fold_of, ops_of, mark, cut_of}
 use Rattle.world_model.specs.Undo.{dated, left_by_all, left_since, undo_list}
-use Rattle.world_model.specs.Placement.{expired}
+use Rattle.world_model.specs.Placement.{below, lifted_of}
 use Rattle.world_model.specs.Asked.{op_of}
 use Rattle.world_model.specs.Refusals.{write_refusal}
 use Rattle.world_model.specs.Views.{time_ahead}
-use Rattle.world_model.specs.Step.{step, begin_step, seen_step, next_step, read_step, write_step, allowed_write_step, effect_step, commit_step, committed, abort_step}
+use Rattle.world_model.specs.Step.{step, begin_step, seen_step, next_step, read_step, write_step, allowed_write_step, effect_step, commit_step, committed, abort_step, answered, refused, installed_world}
 use Rattle.world_model.specs.History.{Entry, IsStart, run, world_after, is_no_memory}
 use Rattle.world_model.proofs.Folds.{both_true, and_left_true, and_right_true}
+use Rattle.world_model.proofs.Objects.{apply_all-append}
+use Rattle.world_model.proofs.Undo.{filter-reverse}
 use Rattle.world_model.proofs.Histories.{run_keeps_order, start_in_order}
 use Rattle.world_model.proofs.Marks.{mark_below, run-more}
 
@@ -39,16 +43,18 @@ pub record Grown (w v : World) : Type 0 where
   pub commits : v.commits ≡ w.commits ++ more
   pub above : list_all (λ c. nat_le w.clock c.ts) more ≡ true
   pub clock : w.clock ≤ v.clock
+  pub interval : v.interval ≡ w.interval
+  pub counters : (w.vertices ≤ v.vertices) × (w.edges ≤ v.edges)
+
+no_less : (n : ℕ) → n ≤ n
+no_less n = omega arith
 
 -- no commit is new
-same : (w v : World) → v.commits ≡ w.commits → w.clock ≤ v.clock → Grown w v
-same w v e later = record { more = []; commits = e ∙ sym (append-nil w.commits); above = refl; clock = later }
-
-still : (w v : World) → v.commits ≡ w.commits → v.clock ≡ w.clock → Grown w v
-still w v e stays = same w v e (omega (arith, stays))
+still : (w v : World) → v.commits ≡ w.commits → v.interval ≡ w.interval → w.clock ≤ v.clock → (w.vertices ≤ v.vertices) × (w.edges ≤ v.edges) → Grown w v
+still w v e i clock counters = record { more = []; commits = e ∙ sym (append-nil w.commits); above = refl; clock = clock; interval = i; counters = counters }
 
 itself : (w : World) → Grown w w
-itself w = still w w refl refl
+itself w = still w w refl refl (no_less w.clock) (no_less w.vertices, no_less w.edges)
 
 above_lower : (m n : ℕ) (cs : List Commit) → m ≤ n → list_all (λ c. nat_le n c.ts) cs ≡ true → list_all (λ c. nat_le m c.ts) cs ≡ true
 above_lower m n [] low h = refl
@@ -62,15 +68,17 @@ onward u v w a b = record {
   commits = b.commits ∙ ap (λ cs. cs ++ b.more) a.commits ∙ append_assoc u.commits a.more b.more;
   above = list_all-append (λ c. nat_le u.clock c.ts) a.more b.more ∙ both_true _ _ a.above (above_lower u.clock v.clock b.more a.clock b.above);
   clock = omega (arith, a.clock, b.clock);
+  interval = b.interval ∙ a.interval;
+  counters = (omega (arith, a.counters.0, b.counters.0), omega (arith, a.counters.1, b.counters.1));
 }
 
 -- ---- one step
 
 begins : (w : World) (c : ℕ) (r : Option BeginRefused) → Grown w (begin_step w c r).world
-begins w c None = same w (begin_step w c None).world refl (omega arith)
+begins w c None = still w (begin_step w c None).world refl refl (omega arith) (no_less w.vertices, no_less w.edges)
 begins w c (Some why) = itself w
 
-seen : (w : World) (why : Option Refused) (reply : Answer) → Grown w (seen_step w why reply).world
+seen : (w : World) (why : Option Refused) (reply : Reply) → Grown w (seen_step w why reply).world
 seen w None reply = itself w
 seen w (Some why) reply = itself w
 
@@ -83,7 +91,7 @@ reads w x when None = itself w
 reads w x when (Some p) = seen w (time_ahead p when) _
 
 effects : (w : World) (c : ℕ) (ask : Ask) (op : Op) (b : Bool) → Grown w (effect_step w c ask op b).world
-effects w c ask op true = still w (effect_step w c ask op true).world refl refl
+effects w c ask op true = still w (effect_step w c ask op true).world refl refl (no_less w.clock) (omega arith, omega arith)
 effects w c ask op false = itself w
 
 allowed : (w : World) (p : Txn) (c : ℕ) (ask : Ask) (r : Option Refused) → Grown w (allowed_write_step w p c ask r).world
@@ -99,17 +107,27 @@ commits w c None = itself w
 commits w c (Some p) = by_writes p.ops
   where
     by_writes : (ops : List Op) → Grown w (committed w c p.start ops).world
-    by_writes [] = still w (committed w c p.start []).world refl refl
+    by_writes [] = still w (committed w c p.start []).world refl refl (no_less w.clock) (no_less w.vertices, no_less w.edges)
     by_writes (op ∷ ops) = record {
       more = record { ts = w.clock; ops = op ∷ ops } ∷ [];
       commits = refl;
       above = both_true _ _ (grind (arith, nat_tests)) refl;
       clock = omega arith;
+      interval = refl;
+      counters = (no_less w.vertices, no_less w.edges);
     }
 
 aborts : (w : World) (c : ℕ) (p : Option Txn) → Grown w (abort_step w c p).world
 aborts w c None = itself w
-aborts w c (Some p) = still w (abort_step w c (Some p)).world refl refl
+aborts w c (Some p) = still w (abort_step w c (Some p)).world refl refl (no_less w.clock) (no_less w.vertices, no_less w.edges)
+
+lifts : (w : World) (x : Oid) (given : Bool) → Grown w (cond given (answered w (reply.Lifted (lifted_of w x))) (refused w (Missing x))).world
+lifts w x true = itself w
+lifts w x false = itself w
+
+installs : (w : World) (piece : PieceParts) (fresh : Bool) → Grown w (cond fresh (record { reply = reply.Installed; world = installed_world w piece }) (refused w (Stale (cut_of w piece.x)))).world
+installs w piece true = still w (installed_world w piece) refl refl (no_less w.clock) (no_less w.vertices, no_less w.edges)
+installs w piece false = itself w
 
 step_grown : (w : World) (c : ℕ) (e : Event) → Grown w (step w c e).world
 step_grown w c event.Begin = begins w c (begin_refusal (transactions_of w) c)
@@ -119,6 +137,9 @@ step_grown w c (event.Write ask) = writes w c ask (txn_of w c)
 step_grown w c event.Commit = commits w c (txn_of w c)
 step_grown w c event.Abort = aborts w c (txn_of w c)
 step_grown w c event.Mark = itself w
+step_grown w c (event.Lift x) = lifts w x (is_given w.vertices w.edges x)
+step_grown w c (event.Install piece) = installs w piece (nat_eq piece.cut (cut_of w piece.x))
+step_grown w c event.Stats = itself w
 
 entry_grown : (w : World) (e : Entry) → Grown w (world_after w e)
 entry_grown w e = pick (is_no_memory e.reply)
@@ -173,42 +194,33 @@ left_late m n (c ∷ cs) g x low h =
     ∙ ap (λ ds. ds ++ filter (λ d. nat_lt d.ts m) (left_since (apply_all c.ops g) cs x)) (dated_late m c.ts (left_by_all c.ops x g) (grind (arith, nat_tests)))
     ∙ left_late m n cs (apply_all c.ops g) x low (and_right_true _ _ h)
 
-left_since-append : (cs ds : List Commit) (g : Graph) (x : Oid) → (after : Graph) × (left_since g (cs ++ ds) x ≡ left_since g cs x ++ left_since after ds x)
-unfolding left_since
-left_since-append [] ds g x = (g, refl)
+pub left_since-append : (cs ds : List Commit) (g : Graph) (x : Oid) → left_since g (cs ++ ds) x ≡ left_since g cs x ++ left_since (apply_all (ops_of cs) g) ds x
+unfolding left_since ops_of apply_all
+left_since-append [] ds g x = refl
 left_since-append (c ∷ cs) ds g x =
     let rest = left_since-append cs ds (apply_all c.ops g) x in
     let first = dated c.ts (left_by_all c.ops x g) in
-    (rest.0, ap (λ es. first ++ es) rest.1 ∙ sym (append_assoc first (left_since (apply_all c.ops g) cs x) (left_since rest.0 ds x)))
+    ap (λ es. first ++ es) rest
+    ∙ sym (append_assoc first (left_since (apply_all c.ops g) cs x) (left_since (apply_all (ops_of cs) (apply_all c.ops g)) ds x))
+    ∙ ap (λ (h : Graph). (first ++ left_since (apply_all c.ops g) cs x) ++ left_since h ds x) (sym (apply_all-append c.ops (ops_of cs) g))
 
-filter-reverse : {X : Type 0} (p : X → Bool) (xs : List X) → filter p (reverse xs) ≡ reverse (filter p xs)
-filter-reverse p [] = refl
-filter-reverse p (x ∷ xs) =
-    ap (filter p) (reverse-append (x ∷ []) xs) ∙ filter-append p (reverse xs) (x ∷ [])
-    ∙ ap (λ ys. ys ++ filter p (x ∷ [])) (filter-reverse p xs) ∙ by_test (p x)
-  where
-    by_test : (b : Bool) → reverse (filter p xs) ++ cond b (x ∷ []) [] ≡ reverse (cond b (x ∷ filter p xs) (filter p xs))
-    by_test true = sym (reverse-append (x ∷ []) (filter p xs))
-    by_test false = append-nil (reverse (filter p xs))
-
-expired_grown : (w v : World) → Grown w v → (m : ℕ) (x : Oid) → m ≤ w.clock → expired m (undo_list v x) ≡ expired m (undo_list w x)
-expired_grown w v g m x low =
-    let parts = left_since-append w.commits g.more empty_graph x in
+pub below_grown : (w v : World) → Grown w v → (m : ℕ) (x : Oid) → m ≤ w.clock → below m (undo_list v x) ≡ below m (undo_list w x)
+below_grown w v g m x low =
     let old = left_since empty_graph w.commits x in
     filter-reverse (λ d. nat_lt d.ts m) (left_since empty_graph v.commits x)
     ∙ ap reverse (ap (λ cs. filter (λ d. nat_lt d.ts m) (left_since empty_graph cs x)) g.commits
-    ∙ ap (filter (λ d. nat_lt d.ts m)) parts.1
-    ∙ filter-append (λ d. nat_lt d.ts m) old (left_since parts.0 g.more x)
-    ∙ ap (λ ds. filter (λ d. nat_lt d.ts m) old ++ ds) (left_late m w.clock g.more parts.0 x low g.above)
+    ∙ ap (filter (λ d. nat_lt d.ts m)) (left_since-append w.commits g.more empty_graph x)
+    ∙ filter-append (λ d. nat_lt d.ts m) old (left_since (fold_of w.commits) g.more x)
+    ∙ ap (λ ds. filter (λ d. nat_lt d.ts m) old ++ ds) (left_late m w.clock g.more (fold_of w.commits) x low g.above)
     ∙ append-nil (filter (λ d. nat_lt d.ts m) old))
     ∙ sym (filter-reverse (λ d. nat_lt d.ts m) old)
 
 -- the deltas below the mark stay
-pub expired_stays : (s : Start) (es later : List Entry) (x : Oid) → IsStart s →
-    expired (mark (run (start_world s) es)) (undo_list (run (start_world s) (es ++ later)) x)
-    ≡ expired (mark (run (start_world s) es)) (undo_list (run (start_world s) es) x)
-expired_stays s es later x h =
+pub past_deltas_stay : (s : Start) (es later : List Entry) (x : Oid) → IsStart s →
+    below (mark (run (start_world s) es)) (undo_list (run (start_world s) (es ++ later)) x)
+    ≡ below (mark (run (start_world s) es)) (undo_list (run (start_world s) es) x)
+past_deltas_stay s es later x h =
     let now : World = run (start_world s) es in
     let low : mark now ≤ now.clock = mark_below now (run_keeps_order (start_world s) es (start_in_order s h)) in
-    ap (λ (w : World). expired (mark now) (undo_list w x)) (run-more (start_world s) es later)
-    ∙ expired_grown now (run now later) (run_grown now later) (mark now) x low
+    ap (λ (w : World). below (mark now) (undo_list w x)) (run-more (start_world s) es later)
+    ∙ below_grown now (run now later) (run_grown now later) (mark now) x low

@@ -1,6 +1,6 @@
 -- A history and one more entry.
 use Rattle.std.proofs.Common.{◌≡◌, ℕ, List, [], ◌∷◌, ◌++◌, Option, Some, None, Bool, true, false, cond, refl, sym, ap, ◌∙◌, inl, inr, arith, map}
-use Rattle.std.specs.Prelude.{nat_lt}
+use Rattle.std.specs.Prelude.{nat_eq, nat_lt}
 use Rattle.std.proofs.lemmas.Bool.{false≢true}
 use Rattle.txn_manager.specs.declared.refusals.BeginRefused.{BeginRefused}
 use Rattle.txn_manager.specs.Transactions.{begin_refusal}
@@ -10,15 +10,19 @@ use Rattle.world_model.specs.declared.event.Event.TheVariants as event
 use Rattle.world_model.specs.declared.event.Kind.{Kind}
 use Rattle.world_model.specs.declared.event.When.{When}
 use Rattle.graph_value.specs.declared.id.Oid.{Oid}
-use Rattle.world_model.specs.declared.answer.Answer.{Answer}
+use Rattle.world_model.specs.Reply.{Reply}
+use Rattle.world_model.specs.Reply as reply
 use Rattle.world_model.specs.declared.answer.Refused.{Refused}
+use Rattle.world_model.specs.declared.answer.Refused.TheVariants.{Missing, Stale}
+use Rattle.world_model.specs.Pieces.{PieceParts}
+use Rattle.world_model.specs.Placement.{lifted_of}
 use Rattle.undo_delta.specs.declared.op.Op.{Op}
-use Rattle.world_model.specs.Op.{changes, are_below, are_sound}
-use Rattle.world_model.specs.World.{World, Start, start_world, InOrder, Commit, Txn, stamps_ascend, rises, txn_of, find_txn, transactions_of, view_of, ops_of}
+use Rattle.world_model.specs.Op.{changes, are_below, are_sound, is_given}
+use Rattle.world_model.specs.World.{World, Start, start_world, InOrder, Commit, Txn, stamps_ascend, rises, txn_of, find_txn, transactions_of, view_of, ops_of, cut_of}
 use Rattle.world_model.specs.Asked.{op_of}
 use Rattle.world_model.specs.Refusals.{write_refusal}
 use Rattle.world_model.specs.Views.{time_ahead}
-use Rattle.world_model.specs.Step.{step, begin_step, seen_step, next_step, read_step, write_step, allowed_write_step, effect_step, commit_step, committed, abort_step}
+use Rattle.world_model.specs.Step.{step, begin_step, seen_step, next_step, read_step, write_step, allowed_write_step, effect_step, commit_step, committed, abort_step, answered, refused, installed_world}
 use Rattle.world_model.specs.History.{Entry, run, AreAnswered, IsAnswered, world_after, is_no_memory, IsLegal, IsStart, stamp_given, stamp_of_txn, stamp_of_writes, stamps_given}
 use Rattle.std.specs.List.{list_all}
 use Rattle.world_model.proofs.Folds.{both_true, and_left_true, and_right_true}
@@ -88,7 +92,7 @@ begin_commits : (w : World) (c : ℕ) (r : Option BeginRefused) → (begin_step 
 begin_commits w c None = refl
 begin_commits w c (Some why) = refl
 
-seen_commits : (w : World) (why : Option Refused) (reply : Answer) → (seen_step w why reply).world.commits ≡ w.commits
+seen_commits : (w : World) (why : Option Refused) (reply : Reply) → (seen_step w why reply).world.commits ≡ w.commits
 seen_commits w None reply = refl
 seen_commits w (Some why) reply = refl
 
@@ -116,7 +120,15 @@ write_commits : (w : World) (c : ℕ) (ask : Ask) (p : Option Txn) → (write_st
 write_commits w c ask None = refl
 write_commits w c ask (Some p) = allowed_commits w p c ask (write_refusal w p ask)
 
-commit_stamps : (w : World) (c : ℕ) (p : Option Txn) (reply : Answer) → reply ≡ (commit_step w c p).reply → stamps (commit_step w c p).world.commits ≡ stamps w.commits ++ stamp_of_txn p reply
+lift_commits : (w : World) (x : Oid) (given : Bool) → (cond given (answered w (reply.Lifted (lifted_of w x))) (refused w (Missing x))).world.commits ≡ w.commits
+lift_commits w x true = refl
+lift_commits w x false = refl
+
+install_commits : (w : World) (piece : PieceParts) (fresh : Bool) → (cond fresh (record { reply = reply.Installed; world = installed_world w piece }) (refused w (Stale (cut_of w piece.x)))).world.commits ≡ w.commits
+install_commits w piece true = refl
+install_commits w piece false = refl
+
+commit_stamps : (w : World) (c : ℕ) (p : Option Txn) (reply : Reply) → reply ≡ (commit_step w c p).reply → stamps (commit_step w c p).world.commits ≡ stamps w.commits ++ stamp_of_txn p reply
 commit_stamps w c None reply e = nothing_more (stamps w.commits)
 commit_stamps w c (Some p) reply e = by_writes p.ops e
   where
@@ -142,7 +154,7 @@ no_stamp w true later same = nothing_more (stamps w.commits)
 no_stamp w false later same = ap stamps same ∙ nothing_more (stamps w.commits)
 
 -- what an entry adds to the timestamps
-entry_stamps : (w : World) (c : ℕ) (e : Event) (r : Answer) → IsAnswered w (record { caller = c; event = e; reply = r }) →
+entry_stamps : (w : World) (c : ℕ) (e : Event) (r : Reply) → IsAnswered w (record { caller = c; event = e; reply = r }) →
     stamps (world_after w (record { caller = c; event = e; reply = r })).commits ≡ stamps w.commits ++ stamp_given w (record { caller = c; event = e; reply = r }) e
 entry_stamps w c event.Begin r h = no_stamp w (is_no_memory r) (step w c event.Begin).world (begin_commits w c (begin_refusal (transactions_of w) c))
 entry_stamps w c (event.Next kind after when) r h = no_stamp w (is_no_memory r) (step w c (event.Next kind after when)).world (next_commits w kind after when (txn_of w c))
@@ -150,6 +162,9 @@ entry_stamps w c (event.Read x when) r h = no_stamp w (is_no_memory r) (step w c
 entry_stamps w c (event.Write ask) r h = no_stamp w (is_no_memory r) (step w c (event.Write ask)).world (write_commits w c ask (txn_of w c))
 entry_stamps w c event.Abort r h = no_stamp w (is_no_memory r) (step w c event.Abort).world (abort_commits w c (txn_of w c))
 entry_stamps w c event.Mark r h = no_stamp w (is_no_memory r) w refl
+entry_stamps w c (event.Lift x) r h = no_stamp w (is_no_memory r) (step w c (event.Lift x)).world (lift_commits w x (is_given w.vertices w.edges x))
+entry_stamps w c (event.Install piece) r h = no_stamp w (is_no_memory r) (step w c (event.Install piece)).world (install_commits w piece (nat_eq piece.cut (cut_of w piece.x)))
+entry_stamps w c event.Stats r h = no_stamp w (is_no_memory r) w refl
 entry_stamps w c event.Commit r (inl same) = pick (is_no_memory r) refl
   where
     pick : (b : Bool) → is_no_memory r ≡ b → stamps (cond b w (step w c event.Commit).world).commits ≡ stamps w.commits ++ stamp_of_txn (txn_of w c) r
@@ -182,4 +197,4 @@ rises-stamps (c ∷ cs) h = both_true _ _ (all_above c.ts cs (and_left_true _ _ 
 -- the timestamps that a legal history gives rise
 pub history_rises : (s : Start) (es : List Entry) → IsStart s → IsLegal s es → rises (stamps_given (start_world s) es) ≡ true
 history_rises s es h legal =
-    ap rises (sym (history_stamps (start_world s) es legal)) ∙ rises-stamps (run (start_world s) es).commits (run_keeps_order (start_world s) es (start_in_order s h)).ascending
+    ap rises (sym (history_stamps (start_world s) es legal.answered)) ∙ rises-stamps (run (start_world s) es).commits (run_keeps_order (start_world s) es (start_in_order s h)).ascending

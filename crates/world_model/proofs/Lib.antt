@@ -19,9 +19,16 @@ pub mod Replies
 pub mod Effects
 pub mod Undo
 pub mod Marks
+pub mod Parted
 pub mod Growing
+pub mod Pieced
+pub mod Carried
+pub mod Invisible
 pub mod Answered
 pub mod OpenUndo
+pub mod Sums
+pub mod Counted
+pub mod Copies
 mod Worked
 mod Network
 mod WorkedGraphs
@@ -29,3 +36,4 @@ mod WorkedSteps
 mod Gaps
 mod WorkedWrites
 mod WorkedReads
+mod WorkedCounts

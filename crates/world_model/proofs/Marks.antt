@@ -1,6 +1,6 @@
 -- The mark never falls.
 use Rattle.std.proofs.Common.{◌≡◌, ℕ, ◌+◌, ◌≤◌, ◌<◌, List, [], ◌∷◌, ◌++◌, Option, Some, None, Bool, true, false, not, cond, min, fold, map, filter, refl, sym, ap, subst, ◌∙◌, arith}
-use Rattle.std.specs.Prelude.{◌==◌, length}
+use Rattle.std.specs.Prelude.{◌==◌, length, nat_eq}
 use Rattle.txn_manager.specs.declared.running.Running.{Running}
 use Rattle.txn_manager.specs.declared.refusals.BeginRefused.{BeginRefused}
 use Rattle.txn_manager.specs.RunningList as list
@@ -11,15 +11,19 @@ use Rattle.world_model.specs.declared.event.Event.{Event}
 use Rattle.world_model.specs.declared.event.Event.TheVariants as event
 use Rattle.world_model.specs.declared.event.Kind.{Kind}
 use Rattle.world_model.specs.declared.event.When.{When}
-use Rattle.world_model.specs.declared.answer.Answer.{Answer}
+use Rattle.world_model.specs.Reply.{Reply}
+use Rattle.world_model.specs.Reply as reply
 use Rattle.world_model.specs.declared.answer.Refused.{Refused}
+use Rattle.world_model.specs.declared.answer.Refused.TheVariants.{Missing, Stale}
+use Rattle.world_model.specs.Pieces.{PieceParts}
+use Rattle.world_model.specs.Placement.{lifted_of}
 use Rattle.undo_delta.specs.declared.op.Op.{Op}
-use Rattle.world_model.specs.Op.{changes}
-use Rattle.world_model.specs.World.{World, Start, start_world, Txn, txn_of, transactions_of, InOrder, view_of, mark}
+use Rattle.world_model.specs.Op.{changes, is_given}
+use Rattle.world_model.specs.World.{World, Start, start_world, Txn, find_txn, txn_of, transactions_of, InOrder, view_of, mark, cut_of}
 use Rattle.world_model.specs.Asked.{op_of}
 use Rattle.world_model.specs.Refusals.{write_refusal}
 use Rattle.world_model.specs.Views.{time_ahead}
-use Rattle.world_model.specs.Step.{step, begin_step, seen_step, next_step, read_step, write_step, commit_step, abort_step, allowed_write_step, effect_step, committed}
+use Rattle.world_model.specs.Step.{step, begin_step, seen_step, next_step, read_step, write_step, commit_step, abort_step, allowed_write_step, effect_step, committed, answered, refused, installed_world}
 use Rattle.world_model.specs.History.{Entry, IsStart, run, world_after, is_no_memory}
 use Rattle.world_model.proofs.Begins.{fresh}
 use Rattle.world_model.proofs.Lists.{bare, map-one, map-with_op, map-without}
@@ -82,14 +86,30 @@ itself n = omega arith
 all_open : (w : World) → AllFrom (mark w) (map bare w.running)
 all_open w = all_from (mark w) w.clock (map bare w.running) (itself (mark w))
 
-begins : (w : World) (c : ℕ) → InOrder w → (r : Option BeginRefused) → mark w ≤ mark (begin_step w c r).world
+open_from : (n : ℕ) (ps : List Txn) (c : ℕ) (p : Txn) → AllFrom n (map bare ps) → find_txn ps c ≡ Some p → n ≤ p.start
+unfolding find_txn
+open_from n [] c p all f = absurd cc
+open_from n (q ∷ ps) c p all f = by_test (nat_eq q.caller c) refl (open_from n ps c p all.1)
+  where
+    by_test : (b : Bool) → nat_eq q.caller c ≡ b → (find_txn ps c ≡ Some p → n ≤ p.start) → n ≤ p.start
+    by_test true e rest =
+        let both : ◌≡◌ {A = Option Txn} (Some q) (Some p) = sym (ap (λ b. cond b (Some q) (find_txn ps c)) e) ∙ f in
+        let same : q ≡ p = cc in
+        subst (λ (t : Txn). n ≤ t.start) same all.0
+    by_test false e rest = rest (sym (ap (λ b. cond b (Some q) (find_txn ps c)) e) ∙ f)
+
+-- no transaction that is open began below the mark
+pub mark_of_open : (w : World) (c : ℕ) (p : Txn) → txn_of w c ≡ Some p → mark w ≤ p.start
+mark_of_open w c p f = open_from (mark w) w.running c p (all_open w) f
+
+pub begins : (w : World) (c : ℕ) → InOrder w → (r : Option BeginRefused) → mark w ≤ mark (begin_step w c r).world
 begins w c o (Some why) = itself (mark w)
 begins w c o None =
     let low : mark w ≤ w.clock = mark_below w o in
     subst (λ (ts : List Running). mark w ≤ least_start (w.clock + 1) ts) (sym (map-one w.running (fresh w c)))
     (from_all (mark w) (w.clock + 1) (map bare w.running ++ bare (fresh w c) ∷ []) (all_one (mark w) (map bare w.running) (bare (fresh w c)) (all_open w) low) (omega arith))
 
-seen : (w : World) (why : Option Refused) (reply : Answer) → mark w ≤ mark (seen_step w why reply).world
+seen : (w : World) (why : Option Refused) (reply : Reply) → mark w ≤ mark (seen_step w why reply).world
 seen w None reply = itself (mark w)
 seen w (Some why) reply = itself (mark w)
 
@@ -101,7 +121,7 @@ reads : (w : World) (x : Oid) (when : When) (p : Option Txn) → mark w ≤ mark
 reads w x when None = itself (mark w)
 reads w x when (Some p) = seen w (time_ahead p when) _
 
-effects : (w : World) (c : ℕ) (ask : Ask) (op : Op) (b : Bool) → mark w ≤ mark (effect_step w c ask op b).world
+pub effects : (w : World) (c : ℕ) (ask : Ask) (op : Op) (b : Bool) → mark w ≤ mark (effect_step w c ask op b).world
 effects w c ask op true = subst (λ (ts : List Running). mark w ≤ least_start w.clock ts) (sym (map-with_op w.running c op)) (itself (mark w))
 effects w c ask op false = itself (mark w)
 
@@ -114,7 +134,7 @@ writes w c ask None = itself (mark w)
 writes w c ask (Some p) = allowed w p c ask (write_refusal w p ask)
 
 -- a transaction ends: the clock may rise, and what is still open was open
-left : (w : World) (c clock : ℕ) → InOrder w → w.clock ≤ clock → mark w ≤ least_start clock (map bare (Rattle.world_model.specs.Step.without c w.running))
+pub left : (w : World) (c clock : ℕ) → InOrder w → w.clock ≤ clock → mark w ≤ least_start clock (map bare (Rattle.world_model.specs.Step.without c w.running))
 left w c clock o later =
     let low : mark w ≤ w.clock = mark_below w o in
     subst (λ (ts : List Running). mark w ≤ least_start clock ts) (sym (map-without w.running c))
@@ -132,6 +152,14 @@ aborts : (w : World) (c : ℕ) → InOrder w → (p : Option Txn) → mark w ≤
 aborts w c o None = itself (mark w)
 aborts w c o (Some p) = left w c w.clock o (itself w.clock)
 
+lifts : (w : World) (x : Oid) (given : Bool) → mark w ≤ mark (cond given (answered w (reply.Lifted (lifted_of w x))) (refused w (Missing x))).world
+lifts w x true = itself (mark w)
+lifts w x false = itself (mark w)
+
+installs : (w : World) (piece : PieceParts) (fresh : Bool) → mark w ≤ mark (cond fresh (record { reply = reply.Installed; world = installed_world w piece }) (refused w (Stale (cut_of w piece.x)))).world
+installs w piece true = itself (mark w)
+installs w piece false = itself (mark w)
+
 pub step_mark : (w : World) (c : ℕ) (e : Event) → InOrder w → mark w ≤ mark (step w c e).world
 step_mark w c event.Begin o = begins w c o (begin_refusal (transactions_of w) c)
 step_mark w c (event.Next kind after when) o = searches w kind after when (txn_of w c)
@@ -140,6 +168,9 @@ step_mark w c (event.Write ask) o = writes w c ask (txn_of w c)
 step_mark w c event.Commit o = commits w c o (txn_of w c)
 step_mark w c event.Abort o = aborts w c o (txn_of w c)
 step_mark w c event.Mark o = itself (mark w)
+step_mark w c (event.Lift x) o = lifts w x (is_given w.vertices w.edges x)
+step_mark w c (event.Install piece) o = installs w piece (nat_eq piece.cut (cut_of w piece.x))
+step_mark w c event.Stats o = itself (mark w)
 
 entry_mark : (w : World) (e : Entry) → InOrder w → mark w ≤ mark (world_after w e)
 entry_mark w e o = pick (is_no_memory e.reply)
@@ -148,7 +179,7 @@ entry_mark w e o = pick (is_no_memory e.reply)
     pick true = itself (mark w)
     pick false = step_mark w e.caller e.event o
 
-run_mark : (w : World) (es : List Entry) → InOrder w → mark w ≤ mark (run w es)
+pub run_mark : (w : World) (es : List Entry) → InOrder w → mark w ≤ mark (run w es)
 unfolding run
 run_mark w [] o = itself (mark w)
 run_mark w (e ∷ es) o =

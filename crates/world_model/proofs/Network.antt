@@ -45,7 +45,7 @@ abbrev pub late : Txn
 late = record { caller = 2; start = 7; ops = op.AddLabel v1 (codes "C") ∷ [] }
 
 abbrev pub network : World
-network = record { clock = 8; vertices = 2; edges = 2; commits = commits; running = early ∷ late ∷ [] }
+network = record { clock = 8; vertices = 2; edges = 2; commits = commits; running = early ∷ late ∷ []; interval = 1; installs = [] }
 
 -- the same where no id is left
 abbrev pub full : World

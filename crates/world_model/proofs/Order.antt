@@ -1,5 +1,6 @@
 -- Every step from a world in order leaves one in order.
-use Rattle.std.proofs.Common.{◌≡◌, ℕ, ◌+◌, List, [], ◌∷◌, ◌++◌, Option, Some, None, Bool, true, false, refl, subst}
+use Rattle.std.proofs.Common.{◌≡◌, ℕ, ◌+◌, List, [], ◌∷◌, ◌++◌, Option, Some, None, Bool, true, false, cond, refl, subst}
+use Rattle.std.specs.Prelude.{nat_eq}
 use Rattle.graph_value.specs.declared.id.Oid.{Oid}
 use Rattle.txn_manager.specs.declared.refusals.BeginRefused.{BeginRefused}
 use Rattle.txn_manager.specs.Transactions.{begin_refusal}
@@ -8,15 +9,19 @@ use Rattle.world_model.specs.declared.event.Event.{Event}
 use Rattle.world_model.specs.declared.event.Event.TheVariants as event
 use Rattle.world_model.specs.declared.event.Kind.{Kind}
 use Rattle.world_model.specs.declared.event.When.{When}
-use Rattle.world_model.specs.declared.answer.Answer.{Answer}
+use Rattle.world_model.specs.Reply.{Reply}
+use Rattle.world_model.specs.Reply as reply
 use Rattle.world_model.specs.declared.answer.Refused.{Refused}
+use Rattle.world_model.specs.declared.answer.Refused.TheVariants.{Missing, Stale}
+use Rattle.world_model.specs.Pieces.{PieceParts}
+use Rattle.world_model.specs.Placement.{lifted_of}
 use Rattle.undo_delta.specs.declared.op.Op.{Op}
-use Rattle.world_model.specs.Op.{changes}
-use Rattle.world_model.specs.World.{World, Txn, txn_of, transactions_of, InOrder, view_of}
+use Rattle.world_model.specs.Op.{changes, is_given}
+use Rattle.world_model.specs.World.{World, Txn, txn_of, transactions_of, InOrder, view_of, cut_of}
 use Rattle.world_model.specs.Asked.{op_of}
 use Rattle.world_model.specs.Refusals.{write_refusal}
 use Rattle.world_model.specs.Views.{time_ahead}
-use Rattle.world_model.specs.Step.{step, begin_step, seen_step, next_step, read_step, write_step, commit_step, abort_step, allowed_write_step, effect_step, committed}
+use Rattle.world_model.specs.Step.{step, begin_step, seen_step, next_step, read_step, write_step, commit_step, abort_step, allowed_write_step, effect_step, committed, answered, refused, installed_world}
 use Rattle.world_model.proofs.Begins.{begin_keeps_order}
 use Rattle.world_model.proofs.Writes.{write_keeps_order}
 use Rattle.world_model.proofs.Commits.{commit_keeps_order, end_keeps_order}
@@ -25,7 +30,7 @@ begins : (w : World) (c : ℕ) → InOrder w → (r : Option BeginRefused) → b
 begins w c o None e = begin_keeps_order w c o e
 begins w c o (Some why) e = o
 
-seen : (w : World) (reply : Answer) → InOrder w → (why : Option Refused) → InOrder (seen_step w why reply).world
+seen : (w : World) (reply : Reply) → InOrder w → (why : Option Refused) → InOrder (seen_step w why reply).world
 seen w reply o None = o
 seen w reply o (Some why) = o
 
@@ -62,6 +67,30 @@ aborts : (w : World) (c : ℕ) → InOrder w → (p : Option Txn) → txn_of w c
 aborts w c o None f = o
 aborts w c o (Some p) f = end_keeps_order w c p o f
 
+lifts : (w : World) (x : Oid) → InOrder w → (given : Bool) → InOrder (cond given (answered w (reply.Lifted (lifted_of w x))) (refused w (Missing x))).world
+lifts w x o true = o
+lifts w x o false = o
+
+-- what lies where is no matter of order
+pub installed : (w : World) (piece : PieceParts) → InOrder w → InOrder (installed_world w piece)
+installed w piece o = record {
+  ready = o.ready;
+  counters = o.counters;
+  ascending = o.ascending;
+  stamped = o.stamped;
+  apart = o.apart;
+  alone = o.alone;
+  unrivalled = o.unrivalled;
+  committed_below = o.committed_below;
+  running_below = o.running_below;
+  committed_sound = o.committed_sound;
+  running_sound = o.running_sound;
+}
+
+installs : (w : World) (piece : PieceParts) → InOrder w → (fresh : Bool) → InOrder (cond fresh (record { reply = reply.Installed; world = installed_world w piece }) (refused w (Stale (cut_of w piece.x)))).world
+installs w piece o true = installed w piece o
+installs w piece o false = o
+
 pub step_keeps_order : (w : World) (c : ℕ) (e : Event) → InOrder w → InOrder (step w c e).world
 step_keeps_order w c event.Begin o = begins w c o (begin_refusal (transactions_of w) c) refl
 step_keeps_order w c (event.Next kind after when) o = searches w kind after when o (txn_of w c)
@@ -70,3 +99,6 @@ step_keeps_order w c (event.Write ask) o = writes w c ask o (txn_of w c) refl
 step_keeps_order w c event.Commit o = commits w c o (txn_of w c) refl
 step_keeps_order w c event.Abort o = aborts w c o (txn_of w c) refl
 step_keeps_order w c event.Mark o = o
+step_keeps_order w c (event.Lift x) o = lifts w x o (is_given w.vertices w.edges x)
+step_keeps_order w c (event.Install piece) o = installs w piece o (nat_eq piece.cut (cut_of w piece.x))
+step_keeps_order w c event.Stats o = o

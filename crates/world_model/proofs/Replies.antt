@@ -1,6 +1,7 @@
 -- Every answer that a world allows belongs to its event.
-use Rattle.std.proofs.Common.{ℕ, List, [], ◌∷◌, Option, Some, None, Bool, true, false, sym, subst, inl, inr}
+use Rattle.std.proofs.Common.{ℕ, List, [], ◌∷◌, Option, Some, None, Bool, true, false, cond, sym, subst, inl, inr}
 use Rattle.std.specs.FinMap.{find}
+use Rattle.std.specs.Prelude.{nat_eq}
 use Rattle.graph_value.specs.declared.id.Oid.{Oid}
 use Rattle.graph_value.specs.declared.id.Oid.TheVariants.{Vertex, Edge}
 use Rattle.graph_record.specs.declared.object.VertexRecord.{VertexRecord}
@@ -13,15 +14,19 @@ use Rattle.world_model.specs.declared.event.Event.{Event}
 use Rattle.world_model.specs.declared.event.Event.TheVariants as event
 use Rattle.world_model.specs.declared.event.Kind.{Kind}
 use Rattle.world_model.specs.declared.event.When.{When}
-use Rattle.world_model.specs.declared.answer.Answer.{Answer}
+use Rattle.world_model.specs.Reply.{Reply}
+use Rattle.world_model.specs.Reply as reply
 use Rattle.world_model.specs.declared.answer.Refused.{Refused}
+use Rattle.world_model.specs.declared.answer.Refused.TheVariants.{Missing, Stale}
+use Rattle.world_model.specs.Pieces.{PieceParts}
+use Rattle.world_model.specs.Placement.{lifted_of}
 use Rattle.undo_delta.specs.declared.op.Op.{Op}
-use Rattle.world_model.specs.Op.{changes}
-use Rattle.world_model.specs.World.{World, Txn, txn_of, transactions_of, view_of}
+use Rattle.world_model.specs.Op.{changes, is_given}
+use Rattle.world_model.specs.World.{World, Txn, txn_of, transactions_of, view_of, cut_of}
 use Rattle.world_model.specs.Asked.{op_of}
 use Rattle.world_model.specs.Refusals.{write_refusal}
 use Rattle.world_model.specs.Views.{graph_of, time_ahead}
-use Rattle.world_model.specs.Step.{step, begin_step, seen_step, next_step, read_step, write_step, allowed_write_step, effect_step, commit_step, committed, abort_step}
+use Rattle.world_model.specs.Step.{step, begin_step, seen_step, next_step, read_step, write_step, allowed_write_step, effect_step, commit_step, committed, abort_step, answered, refused, installed_world}
 use Rattle.world_model.specs.History.{IsAnswered}
 use Rattle.world_model.specs.Replies.{IsObjectOf, IsReplyTo}
 
@@ -42,7 +47,7 @@ begins w c None = tt
 begins w c (Some why) = tt
 
 -- what is answered of a graph, or that its instant is ahead
-seen : (w : World) (e : Event) (reply : Answer) → IsReplyTo e reply → (why : Option Refused) → IsReplyTo e (seen_step w why reply).reply
+seen : (w : World) (e : Event) (reply : Reply) → IsReplyTo e reply → (why : Option Refused) → IsReplyTo e (seen_step w why reply).reply
 seen w e reply h None = h
 seen w e reply h (Some why) = tt
 
@@ -78,6 +83,14 @@ aborts : (w : World) (c : ℕ) (p : Option Txn) → IsReplyTo event.Abort (abort
 aborts w c None = tt
 aborts w c (Some p) = tt
 
+lifts : (w : World) (x : Oid) (given : Bool) → IsReplyTo (event.Lift x) (cond given (answered w (reply.Lifted (lifted_of w x))) (refused w (Missing x))).reply
+lifts w x true = tt
+lifts w x false = tt
+
+installs : (w : World) (piece : PieceParts) (fresh : Bool) → IsReplyTo (event.Install piece) (cond fresh (record { reply = reply.Installed; world = installed_world w piece }) (refused w (Stale (cut_of w piece.x)))).reply
+installs w piece true = tt
+installs w piece false = tt
+
 step_replies : (w : World) (c : ℕ) (e : Event) → IsReplyTo e (step w c e).reply
 step_replies w c event.Begin = begins w c (begin_refusal (transactions_of w) c)
 step_replies w c (event.Next kind after when) = searches w kind after when (txn_of w c)
@@ -86,7 +99,10 @@ step_replies w c (event.Write ask) = writes w c ask (txn_of w c)
 step_replies w c event.Commit = commits w c (txn_of w c)
 step_replies w c event.Abort = aborts w c (txn_of w c)
 step_replies w c event.Mark = tt
+step_replies w c (event.Lift x) = lifts w x (is_given w.vertices w.edges x)
+step_replies w c (event.Install piece) = installs w piece (nat_eq piece.cut (cut_of w piece.x))
+step_replies w c event.Stats = tt
 
-pub answer_replies : (w : World) (c : ℕ) (e : Event) (r : Answer) → IsAnswered w (record { caller = c; event = e; reply = r }) → IsReplyTo e r
+pub answer_replies : (w : World) (c : ℕ) (e : Event) (r : Reply) → IsAnswered w (record { caller = c; event = e; reply = r }) → IsReplyTo e r
 answer_replies w c e r (inl same) = subst (IsReplyTo e) (sym same) (step_replies w c e)
 answer_replies w c e r (inr wanting) = subst (IsReplyTo e) (sym wanting.0) tt

@@ -81,7 +81,7 @@ writes_undone (op ∷ ops) g x sound form =
 
 -- ---- commits
 
-map-reverse : {A B : Type 0} (f : A → B) (xs : List A) → map f (reverse xs) ≡ reverse (map f xs)
+pub map-reverse : {A B : Type 0} (f : A → B) (xs : List A) → map f (reverse xs) ≡ reverse (map f xs)
 map-reverse f [] = refl
 map-reverse f (y ∷ ys) = ap (map f) (reverse-append (y ∷ []) ys) ∙ map-append f (reverse ys) (y ∷ []) ∙ ap (λ zs. zs ++ f y ∷ []) (map-reverse f ys) ∙ sym (reverse-append (f y ∷ []) (map f ys))
 
@@ -98,7 +98,7 @@ sound_parts c cs g h =
     let split = sym (are_sound-append c.ops (ops_of cs) g) ∙ h in
     (and_left_true (are_sound c.ops g) (are_sound (ops_of cs) (apply_all c.ops g)) split, and_right_true (are_sound c.ops g) (are_sound (ops_of cs) (apply_all c.ops g)) split)
 
-commits_undone : (cs : List Commit) (g : Graph) (x : Oid) → are_sound (ops_of cs) g ≡ true → IsForm (object_at g x) →
+pub commits_undone : (cs : List Commit) (g : Graph) (x : Oid) → are_sound (ops_of cs) g ≡ true → IsForm (object_at g x) →
     fold after (object_at (apply_all (ops_of cs) g) x) (deltas_of (reverse (left_since g cs x))) ≡ object_at g x
 unfolding ops_of left_since apply_all
 commits_undone [] g x sound form = refl
@@ -130,7 +130,7 @@ all_above t ts (d ∷ ds) h =
     ap (λ b. cond b (record { ts = ts; delta = d } ∷ filter (is_above t) (dated ts ds)) (filter (is_above t) (dated ts ds))) h
     ∙ ap (λ es. record { ts = ts; delta = d } ∷ es) (all_above t ts ds h)
 
-filter-reverse : {A : Type 0} (p : A → Bool) (xs : List A) → filter p (reverse xs) ≡ reverse (filter p xs)
+pub filter-reverse : {A : Type 0} (p : A → Bool) (xs : List A) → filter p (reverse xs) ≡ reverse (filter p xs)
 filter-reverse p [] = refl
 filter-reverse p (y ∷ ys) =
     ap (filter p) (reverse-append (y ∷ []) ys) ∙ filter-append p (reverse ys) (y ∷ [])

@@ -39,6 +39,8 @@ world = record {
       ∷ record { ts = 6; ops = DeleteEdge e v v ∷ DeleteVertex v ∷ [] }
       ∷ [];
   running = [];
+  interval = 1;
+  installs = [];
 }
 
 abbrev vertex : List (List ℕ) → List EdgeId → VertexRecord
@@ -100,6 +102,8 @@ reset = record {
       ∷ record { ts = 6; ops = SetVertexProp v k Null ∷ [] }
       ∷ [];
   running = [];
+  interval = 1;
+  installs = [];
 }
 
 -- what each set leaves, where it changes nothing or gives back the old value

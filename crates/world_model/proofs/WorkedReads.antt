@@ -9,7 +9,7 @@ use Rattle.world_model.specs.declared.event.Event.TheVariants as event
 use Rattle.world_model.specs.declared.event.Kind.TheVariants as kind
 use Rattle.world_model.specs.declared.event.When.{When}
 use Rattle.world_model.specs.declared.event.When.TheVariants.{Own, At}
-use Rattle.world_model.specs.declared.answer.Answer.TheVariants as answer
+use Rattle.world_model.specs.Reply as reply
 use Rattle.world_model.specs.declared.answer.Refused.TheVariants as refused
 use Rattle.world_model.specs.Op.{apply_all}
 use Rattle.world_model.specs.World.{find_txn, ops_of, before, view_of}
@@ -26,37 +26,37 @@ vertex labels outs ins = object.Vertex (record { labels = labels; props = []; ou
 -- ---- reads
 
 -- a transaction sees its own writes, and not at an instant
-read_own : step network 2 (event.Read (oid.Vertex v1) Own) ≡ record { reply = answer.Version (vertex (codes "C" ∷ []) (e1 ∷ []) (e0 ∷ e1 ∷ [])); world = network }
+read_own : step network 2 (event.Read (oid.Vertex v1) Own) ≡ record { reply = reply.Version (vertex (codes "C" ∷ []) (e1 ∷ []) (e0 ∷ e1 ∷ [])); world = network }
 unfolding apply_all ops_of before find_txn
 read_own = refl
 
-read_at_start : step network 2 (event.Read (oid.Vertex v1) (At 7)) ≡ record { reply = answer.Version (vertex [] (e1 ∷ []) (e0 ∷ e1 ∷ [])); world = network }
+read_at_start : step network 2 (event.Read (oid.Vertex v1) (At 7)) ≡ record { reply = reply.Version (vertex [] (e1 ∷ []) (e0 ∷ e1 ∷ [])); world = network }
 unfolding apply_all ops_of before find_txn
 read_at_start = refl
 
 -- a read at an instant sees the commits up to it
-read_at_3 : (step network 1 (event.Read (oid.Vertex v0) (At 3))).reply ≡ answer.Version (vertex [] (e0 ∷ []) [])
+read_at_3 : (step network 1 (event.Read (oid.Vertex v0) (At 3))).reply ≡ reply.Version (vertex [] (e0 ∷ []) [])
 unfolding apply_all ops_of before find_txn
 read_at_3 = refl
 
-read_at_4 : (step network 1 (event.Read (oid.Vertex v0) (At 4))).reply ≡ answer.Version (vertex (codes "A" ∷ codes "B" ∷ []) (e0 ∷ []) [])
+read_at_4 : (step network 1 (event.Read (oid.Vertex v0) (At 4))).reply ≡ reply.Version (vertex (codes "A" ∷ codes "B" ∷ []) (e0 ∷ []) [])
 unfolding apply_all ops_of before find_txn
 read_at_4 = refl
 
-read_before_all : (step network 1 (event.Read (oid.Vertex v0) (At 1))).reply ≡ answer.Version object.Dead
+read_before_all : (step network 1 (event.Read (oid.Vertex v0) (At 1))).reply ≡ reply.Version object.Dead
 unfolding apply_all ops_of before find_txn
 read_before_all = refl
 
 -- the start itself may be read, and nothing past it
-read_at_5 : (step network 1 (event.Read (oid.Vertex v0) (At 5))).reply ≡ answer.Version (vertex (codes "A" ∷ codes "B" ∷ []) (e0 ∷ []) [])
+read_at_5 : (step network 1 (event.Read (oid.Vertex v0) (At 5))).reply ≡ reply.Version (vertex (codes "A" ∷ codes "B" ∷ []) (e0 ∷ []) [])
 unfolding apply_all ops_of before find_txn
 read_at_5 = refl
 
-read_ahead : step network 1 (event.Read (oid.Vertex v0) (At 6)) ≡ record { reply = answer.Refused (refused.TimeAhead 6 5); world = network }
+read_ahead : step network 1 (event.Read (oid.Vertex v0) (At 6)) ≡ record { reply = reply.Refused (refused.TimeAhead 6 5); world = network }
 unfolding find_txn
 read_ahead = refl
 
-read_by_nobody : step network 3 (event.Read (oid.Vertex v0) (At 1)) ≡ record { reply = answer.Refused refused.NoTxn; world = network }
+read_by_nobody : step network 3 (event.Read (oid.Vertex v0) (At 1)) ≡ record { reply = reply.Refused refused.NoTxn; world = network }
 unfolding find_txn
 read_by_nobody = refl
 
@@ -66,7 +66,7 @@ abbrev next_vertex : Option ℕ → When → Outcome
 next_vertex after when = step gaps 1 (event.Next kind.Vertex after when)
 
 abbrev told : Option ℕ → Outcome
-told id = record { reply = answer.Id id; world = gaps }
+told id = record { reply = reply.Id id; world = gaps }
 
 first_vertex : next_vertex None Own ≡ told (Some 0)
 unfolding apply_all ops_of before find_txn
@@ -99,7 +99,7 @@ alive_then : next_vertex (Some 0) (At 3) ≡ told (Some 1)
 unfolding apply_all ops_of before find_txn
 alive_then = refl
 
-search_ahead : next_vertex None (At 6) ≡ record { reply = answer.Refused (refused.TimeAhead 6 5); world = gaps }
+search_ahead : next_vertex None (At 6) ≡ record { reply = reply.Refused (refused.TimeAhead 6 5); world = gaps }
 unfolding find_txn
 search_ahead = refl
 
@@ -111,7 +111,7 @@ no_edge : step gaps 1 (event.Next kind.Edge (Some 2) Own) ≡ told None
 unfolding apply_all ops_of before find_txn
 no_edge = refl
 
-search_by_nobody : step gaps 2 (event.Next kind.Edge None Own) ≡ record { reply = answer.Refused refused.NoTxn; world = gaps }
+search_by_nobody : step gaps 2 (event.Next kind.Edge None Own) ≡ record { reply = reply.Refused refused.NoTxn; world = gaps }
 unfolding find_txn
 search_by_nobody = refl
 
@@ -125,28 +125,28 @@ not_itself next = let above : false ≡ true = next.above in cc
 
 -- ---- aborts: the transaction is gone, and clock, counters and commits are as they were
 
-aborted : step network 2 event.Abort ≡ record { reply = answer.Aborted; world = record network { running = early ∷ [] } }
+aborted : step network 2 event.Abort ≡ record { reply = reply.Aborted; world = record network { running = early ∷ [] } }
 unfolding find_txn without
 aborted = refl
 
-ids_stay : step gaps 1 event.Abort ≡ record { reply = answer.Aborted; world = record gaps { running = [] } }
+ids_stay : step gaps 1 event.Abort ≡ record { reply = reply.Aborted; world = record gaps { running = [] } }
 unfolding find_txn without
 ids_stay = refl
 
-none_to_abort : step network 3 event.Abort ≡ record { reply = answer.Refused refused.NoTxn; world = network }
+none_to_abort : step network 3 event.Abort ≡ record { reply = reply.Refused refused.NoTxn; world = network }
 unfolding find_txn
 none_to_abort = refl
 
-no_stamp : stamps_given network (record { caller = 2; event = event.Abort; reply = answer.Aborted } ∷ []) ≡ []
+no_stamp : stamps_given network (record { caller = 2; event = event.Abort; reply = reply.Aborted } ∷ []) ≡ []
 unfolding stamps_given find_txn without
 no_stamp = refl
 
 -- ---- marks: four numbers, told to everybody
 
-marked : step gaps 9 event.Mark ≡ record { reply = answer.Marked (record { mark = 5; clock = 6; vertices = 5; edges = 3 }); world = gaps }
+marked : step gaps 9 event.Mark ≡ record { reply = reply.Marked (record { mark = 5; clock = 6; vertices = 5; edges = 3 }); world = gaps }
 marked = refl
 
-marked_unopened : (step (record gaps { running = [] }) 9 event.Mark).reply ≡ answer.Marked (record { mark = 6; clock = 6; vertices = 5; edges = 3 })
+marked_unopened : (step (record gaps { running = [] }) 9 event.Mark).reply ≡ reply.Marked (record { mark = 6; clock = 6; vertices = 5; edges = 3 })
 marked_unopened = refl
 
 -- ---- where memory may be wanting
@@ -167,23 +167,23 @@ not_ahead = refl
 
 -- ---- which answers belong to which events
 
-no_number_at_a_read : IsReplyTo (event.Read (oid.Vertex v0) Own) (answer.Id None) → ⊥
+no_number_at_a_read : IsReplyTo (event.Read (oid.Vertex v0) Own) (reply.Id None) → ⊥
 no_number_at_a_read h = h
 
-no_number_at_a_mark : IsReplyTo event.Mark (answer.Id None) → ⊥
+no_number_at_a_mark : IsReplyTo event.Mark (reply.Id None) → ⊥
 no_number_at_a_mark h = h
 
-no_number_at_an_abort : IsReplyTo event.Abort (answer.Id None) → ⊥
+no_number_at_an_abort : IsReplyTo event.Abort (reply.Id None) → ⊥
 no_number_at_an_abort h = h
 
-no_number_at_a_write : IsReplyTo (event.Write CreateVertex) (answer.Id None) → ⊥
+no_number_at_a_write : IsReplyTo (event.Write CreateVertex) (reply.Id None) → ⊥
 no_number_at_a_write h = h
 
-no_version_at_an_abort : IsReplyTo event.Abort (answer.Version object.Dead) → ⊥
+no_version_at_an_abort : IsReplyTo event.Abort (reply.Version object.Dead) → ⊥
 no_version_at_an_abort h = h
 
-no_version_at_a_mark : IsReplyTo event.Mark (answer.Version object.Dead) → ⊥
+no_version_at_a_mark : IsReplyTo event.Mark (reply.Version object.Dead) → ⊥
 no_version_at_a_mark h = h
 
-no_version_at_a_search : IsReplyTo (event.Next kind.Vertex None Own) (answer.Version object.Dead) → ⊥
+no_version_at_a_search : IsReplyTo (event.Next kind.Vertex None Own) (reply.Version object.Dead) → ⊥
 no_version_at_a_search h = h

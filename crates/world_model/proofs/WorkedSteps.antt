@@ -15,7 +15,7 @@ use Rattle.undo_delta.specs.declared.ask.Ask.{Ask}
 use Rattle.undo_delta.specs.declared.ask.Ask.TheVariants.{CreateVertex, SetVertexProp, SetEdgeProp}
 use Rattle.world_model.specs.declared.event.Event.TheVariants as event
 use Rattle.world_model.specs.declared.event.When.TheVariants.{Own}
-use Rattle.world_model.specs.declared.answer.Answer.TheVariants as answer
+use Rattle.world_model.specs.Reply as reply
 use Rattle.world_model.specs.declared.answer.Wrote.TheVariants as wrote
 use Rattle.world_model.specs.declared.answer.Refused.TheVariants as refused
 use Rattle.world_model.specs.Op.{apply_all, are_touching}
@@ -50,7 +50,7 @@ vertex_at_the_end = refl
 abbrev weighted : World
 weighted = record network { running = record early { ops = op.SetEdgeProp e0 (codes "w") five ∷ [] } ∷ late ∷ [] }
 
-weight_is_set : step network 1 (event.Write set_weight) ≡ record { reply = answer.Wrote wrote.Done; world = weighted }
+weight_is_set : step network 1 (event.Write set_weight) ≡ record { reply = reply.Wrote wrote.Done; world = weighted }
 unfolding apply_all ops_of before find_txn other_writer newest_touch are_touching with_op
     values.out-Value values.roll-Value denote.Hole.Carrier.out denote.Hole.Carrier.roll
 weight_is_set =
@@ -67,7 +67,7 @@ key_op = op.SetVertexProp v1 (codes "k") five
 abbrev keyed : World
 keyed = record network { running = early ∷ record late { ops = op.AddLabel v1 (codes "C") ∷ key_op ∷ [] } ∷ [] }
 
-key_is_set : step network 2 (event.Write set_key) ≡ record { reply = answer.Wrote wrote.Done; world = keyed }
+key_is_set : step network 2 (event.Write set_key) ≡ record { reply = reply.Wrote wrote.Done; world = keyed }
 unfolding apply_all ops_of before find_txn other_writer newest_touch are_touching with_op
     values.out-Value values.roll-Value denote.Hole.Carrier.out denote.Hole.Carrier.roll
 key_is_set =
@@ -94,11 +94,11 @@ not_there = refl
 
 -- ---- the ends of a transaction
 
-committed : (step network 2 event.Commit).reply ≡ answer.Committed 8
+committed : (step network 2 event.Commit).reply ≡ reply.Committed 8
 unfolding find_txn
 committed = refl
 
-nothing_committed : (step network 1 event.Commit).reply ≡ answer.Committed 5
+nothing_committed : (step network 1 event.Commit).reply ≡ reply.Committed 5
 unfolding find_txn
 nothing_committed = refl
 
@@ -130,16 +130,16 @@ nothing_done : world_after network (record { caller = 3; event = event.Begin; re
 nothing_done = refl
 
 -- after every other answer the world is the step's
-after_a_begin : world_after network (record { caller = 3; event = event.Begin; reply = answer.Begun 8 })
+after_a_begin : world_after network (record { caller = 3; event = event.Begin; reply = reply.Begun 8 })
     ≡ record network { clock = 9; running = early ∷ late ∷ record { caller = 3; start = 8; ops = [] } ∷ [] }
 after_a_begin = refl
 
-after_a_write : world_after network (record { caller = 2; event = event.Write CreateVertex; reply = answer.Wrote (wrote.Vertex (record { 0 = 2 })) })
+after_a_write : world_after network (record { caller = 2; event = event.Write CreateVertex; reply = reply.Wrote (wrote.Vertex (record { 0 = 2 })) })
     ≡ record network { vertices = 3; running = early ∷ record late { ops = op.AddLabel v1 (codes "C") ∷ op.CreateVertex (record { 0 = 2 }) ∷ [] } ∷ [] }
 unfolding apply_all ops_of before find_txn other_writer newest_touch are_touching with_op
 after_a_write = refl
 
-after_an_abort : world_after network (record { caller = 2; event = event.Abort; reply = answer.Aborted }) ≡ record network { running = early ∷ [] }
+after_an_abort : world_after network (record { caller = 2; event = event.Abort; reply = reply.Aborted }) ≡ record network { running = early ∷ [] }
 unfolding find_txn without
 after_an_abort = refl
 
@@ -157,14 +157,14 @@ not_falling : rises (2 ∷ 6 ∷ 4 ∷ []) ≡ false
 unfolding rises
 not_falling = refl
 
-stamps_of_both : stamps_given network (record { caller = 2; event = event.Commit; reply = answer.Committed 8 } ∷ record { caller = 1; event = event.Commit; reply = answer.Committed 5 } ∷ []) ≡ 8 ∷ []
+stamps_of_both : stamps_given network (record { caller = 2; event = event.Commit; reply = reply.Committed 8 } ∷ record { caller = 1; event = event.Commit; reply = reply.Committed 5 } ∷ []) ≡ 8 ∷ []
 unfolding stamps_given find_txn without
 stamps_of_both = refl
 
 -- ---- the clock's end
 
 abbrev late_clock : ℕ → World
-late_clock clock = start_world (record { clock = clock; vertices = 0; edges = 0 })
+late_clock clock = start_world (record { interval = 1; clock = clock; vertices = 0; edges = 0 })
 
 room_for_one : begin_refusal (record { clock = 4611686018427387902; running = [] }) 1 ≡ None
 room_for_one = refl
@@ -172,10 +172,10 @@ room_for_one = refl
 room_for_none : begin_refusal (record { clock = 4611686018427387903; running = [] }) 1 ≡ Some begin.ClockEnd
 room_for_none = refl
 
-no_start_behind : IsStart (record { clock = 4611686018427387905; vertices = 0; edges = 0 }) → ⊥
+no_start_behind : IsStart (record { interval = 1; clock = 4611686018427387905; vertices = 0; edges = 0 }) → ⊥
 no_start_behind h = let low : 4611686018427387905 ≤ 4611686018427387904 = h.clock.1 in absurd (omega arith)
 
-no_start_at_0 : IsStart (record { clock = 0; vertices = 0; edges = 0 }) → ⊥
+no_start_at_0 : IsStart (record { interval = 1; clock = 0; vertices = 0; edges = 0 }) → ⊥
 no_start_at_0 h = let low : 1 ≤ 0 = h.clock.0 in absurd (omega arith)
 
 not_in_order : InOrder (late_clock 4611686018427387905) → ⊥
@@ -199,5 +199,5 @@ not_unseen : InOrder blind → ⊥
 unfolding find_txn are_touching touched_after
 not_unseen o = let free : true ≡ false = o.unrivalled 1 _ refl (oid.Vertex v0) refl in cc
 
-no_version_at_a_begin : IsReplyTo event.Begin (answer.Version Dead) → ⊥
+no_version_at_a_begin : IsReplyTo event.Begin (reply.Version Dead) → ⊥
 no_version_at_a_begin h = h

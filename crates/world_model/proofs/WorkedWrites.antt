@@ -7,7 +7,7 @@ use Rattle.undo_delta.specs.declared.delta.Delta.TheVariants as delta
 use Rattle.undo_delta.specs.declared.op.Op.{Op}
 use Rattle.undo_delta.specs.declared.op.Op.TheVariants as op
 use Rattle.world_model.specs.declared.event.Event.TheVariants as event
-use Rattle.world_model.specs.declared.answer.Answer.TheVariants as answer
+use Rattle.world_model.specs.Reply as reply
 use Rattle.world_model.specs.declared.answer.Wrote.TheVariants as wrote
 use Rattle.world_model.specs.declared.answer.Refused.TheVariants as refused
 use Rattle.world_model.specs.Op.{apply_all, are_touching}
@@ -44,14 +44,14 @@ unfolding apply_all ops_of before find_txn other_writer newest_touch are_touchin
 not_there = refl
 
 vertex_deleted : step gaps 1 (event.Write (DeleteVertex v4))
-    ≡ record { reply = answer.Wrote wrote.Done; world = record gaps { running = record maker { ops = op.CreateVertex v4 ∷ op.DeleteVertex v4 ∷ [] } ∷ [] } }
+    ≡ record { reply = reply.Wrote wrote.Done; world = record gaps { running = record maker { ops = op.CreateVertex v4 ∷ op.DeleteVertex v4 ∷ [] } ∷ [] } }
 unfolding apply_all ops_of before find_txn other_writer newest_touch are_touching with_op
 vertex_deleted = refl
 
 -- a vertex gets the vertices' number, and raises that alone
 vertex_made : step gaps 1 (event.Write CreateVertex)
     ≡ record {
-      reply = answer.Wrote (wrote.Vertex (record { 0 = 5 }));
+      reply = reply.Wrote (wrote.Vertex (record { 0 = 5 }));
       world = record gaps { vertices = 6; running = record maker { ops = op.CreateVertex v4 ∷ op.CreateVertex (record { 0 = 5 }) ∷ [] } ∷ [] };
     }
 unfolding apply_all ops_of before find_txn other_writer newest_touch are_touching with_op
@@ -59,11 +59,11 @@ vertex_made = refl
 
 -- ---- labels
 
-label_added : step network 2 (event.Write (AddLabel v0 (codes "Z"))) ≡ record { reply = answer.Wrote wrote.Done; world = later_writes (op.AddLabel v0 (codes "Z")) }
+label_added : step network 2 (event.Write (AddLabel v0 (codes "Z"))) ≡ record { reply = reply.Wrote wrote.Done; world = later_writes (op.AddLabel v0 (codes "Z")) }
 unfolding apply_all ops_of before find_txn other_writer newest_touch are_touching with_op
 label_added = refl
 
-label_removed : step network 2 (event.Write (RemoveLabel v0 (codes "B"))) ≡ record { reply = answer.Wrote wrote.Done; world = later_writes (op.RemoveLabel v0 (codes "B")) }
+label_removed : step network 2 (event.Write (RemoveLabel v0 (codes "B"))) ≡ record { reply = reply.Wrote wrote.Done; world = later_writes (op.RemoveLabel v0 (codes "B")) }
 unfolding apply_all ops_of before find_txn other_writer newest_touch are_touching with_op
 label_removed = refl
 
@@ -80,7 +80,7 @@ label_gone = refl
 
 -- an edge gets the edges' number, and raises that alone
 edge_made : step network 2 (event.Write (CreateEdge v0 (codes "T") v1))
-    ≡ record { reply = answer.Wrote (wrote.Edge e2); world = record (later_writes (op.CreateEdge e2 v0 (codes "T") v1)) { edges = 3 } }
+    ≡ record { reply = reply.Wrote (wrote.Edge e2); world = record (later_writes (op.CreateEdge e2 v0 (codes "T") v1)) { edges = 3 } }
 unfolding apply_all ops_of before find_txn other_writer newest_touch are_touching with_op
 edge_made = refl
 
@@ -122,7 +122,7 @@ loop_found : op_of network (view_of network late) (DeleteEdge e1) ≡ op.DeleteE
 unfolding apply_all ops_of before
 loop_found = refl
 
-edge_deleted : step network 2 (event.Write (DeleteEdge e0)) ≡ record { reply = answer.Wrote wrote.Done; world = later_writes (op.DeleteEdge e0 v0 v1) }
+edge_deleted : step network 2 (event.Write (DeleteEdge e0)) ≡ record { reply = reply.Wrote wrote.Done; world = later_writes (op.DeleteEdge e0 v0 v1) }
 unfolding apply_all ops_of before find_txn other_writer newest_touch are_touching with_op
 edge_deleted = refl
 

@@ -8,4 +8,7 @@ pub mod History
 pub mod Change
 pub mod Replies
 pub mod Undo
+pub mod Pieces
+pub mod Reply
 pub mod Placement
+pub mod Counts

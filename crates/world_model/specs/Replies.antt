@@ -1,14 +1,19 @@
 -- Which answers belong to which events.
+use Rattle.std.specs.Prelude.{◌≡◌, ◌≢◌}
 use Rattle.graph_value.specs.declared.id.Oid.{Oid}
 use Rattle.graph_record.specs.declared.object.Object.{Object}
 use Rattle.graph_record.specs.declared.object.Object.TheVariants.{Dead, Vertex, Edge}
 use Rattle.graph_record.specs.Json.{IsOfKind}
+use Rattle.world_model.specs.declared.answer.Answer.{Answer}
+use Rattle.world_model.specs.declared.answer.Answer.TheVariants as answer
 use Rattle.world_model.specs.declared.event.Asked.{Asked}
 use Rattle.world_model.specs.declared.event.Asked.TheVariants as asked
 use Rattle.world_model.specs.declared.event.Event.{Event}
 use Rattle.world_model.specs.declared.event.Event.TheVariants as event
-use Rattle.world_model.specs.declared.answer.Answer.{Answer}
-use Rattle.world_model.specs.declared.answer.Answer.TheVariants as answer
+use Rattle.world_model.specs.declared.answer.Refused.TheVariants.{NoMemory}
+use Rattle.world_model.specs.Pieces.{PieceParts}
+use Rattle.world_model.specs.Reply.{Reply}
+use Rattle.world_model.specs.Reply as reply
 
 -- what an event asks to be told
 abbrev pub asked_by : Event → Asked
@@ -19,6 +24,9 @@ asked_by (event.Write ask) = asked.Nothing
 asked_by event.Commit = asked.Nothing
 asked_by event.Abort = asked.Nothing
 asked_by event.Mark = asked.Nothing
+asked_by (event.Lift x) = asked.Nothing
+asked_by (event.Install piece) = asked.Nothing
+asked_by event.Stats = asked.Nothing
 
 -- the object is dead, or is a vertex under a vertex's id and an edge under an edge's
 abbrev pub IsObjectOf : Oid → Object → Type 0
@@ -39,16 +47,29 @@ IsNumberAsked (asked.Version x) = ⊥
 IsNumberAsked (asked.Number kind) = Unit {0}
 
 -- what may be answered where this was asked
-abbrev pub IsAnswerTo : Asked → Answer → Type 0
-IsAnswerTo asked (answer.Version o) = IsVersionOf asked o
-IsAnswerTo asked (answer.Id id) = IsNumberAsked asked
-IsAnswerTo asked (answer.Begun start) = Unit {0}
-IsAnswerTo asked (answer.Wrote wrote) = Unit {0}
-IsAnswerTo asked (answer.Committed ts) = Unit {0}
-IsAnswerTo asked answer.Aborted = Unit {0}
-IsAnswerTo asked (answer.Marked marked) = Unit {0}
-IsAnswerTo asked (answer.Refused why) = Unit {0}
+abbrev pub IsAnswerTo : Asked → Reply → Type 0
+IsAnswerTo asked (reply.Version o) = IsVersionOf asked o
+IsAnswerTo asked (reply.Id id) = IsNumberAsked asked
+IsAnswerTo asked (reply.Begun start) = Unit {0}
+IsAnswerTo asked (reply.Wrote wrote) = Unit {0}
+IsAnswerTo asked (reply.Committed ts) = Unit {0}
+IsAnswerTo asked reply.Aborted = Unit {0}
+IsAnswerTo asked (reply.Marked marked) = Unit {0}
+IsAnswerTo asked (reply.Lifted lifted) = Unit {0}
+IsAnswerTo asked reply.Installed = Unit {0}
+IsAnswerTo asked (reply.Stats stats) = Unit {0}
+IsAnswerTo asked (reply.Refused why) = Unit {0}
 
 -- a version is answered to a read alone, and a number to a search
-abbrev pub IsReplyTo : Event → Answer → Type 0
+abbrev pub IsReplyTo : Event → Reply → Type 0
 IsReplyTo e a = IsAnswerTo (asked_by e) a
+
+-- An installation that finds no memory hands back the piece that it was sent.
+abbrev pub IsHandedBack : PieceParts → Answer → Type 0
+IsHandedBack piece (answer.NotInstalled back) = back ≡ piece
+IsHandedBack piece (answer.Refused why) = why ≢ NoMemory
+IsHandedBack piece a = Unit {0}
+
+abbrev pub HandsBack : Event → Answer → Type 0
+HandsBack (event.Install piece) a = IsHandedBack piece a
+HandsBack e a = Unit {0}

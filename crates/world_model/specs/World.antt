@@ -7,6 +7,7 @@ use Rattle.world_model.specs.declared.TheConstants.{ID_END}
 use Rattle.txn_manager.specs.declared.rivals.Rival.{Rival}
 use Rattle.txn_manager.specs.Transactions.{Transactions, IsReady, mark_of}
 use Rattle.txn_manager.specs.Conflict.{rival_of}
+use Rattle.undo_delta.specs.Touch.{same_oid}
 use Rattle.undo_delta.specs.declared.op.Op.{Op}
 use Rattle.world_model.specs.Op.{apply_all, are_touching, are_sound, are_below}
 
@@ -21,21 +22,38 @@ pub record Txn : Type 0 where
   pub start : ℕ
   pub ops : List Op
 
+-- the deltas of an object below a mark have been moved into its history
+pub record Install : Type 0 where
+  pub x : Oid
+  pub mark : ℕ
+
+-- the world: and besides, how many deltas a block of history holds, and what was moved into history, the last first
 pub record World : Type 0 where
   pub clock : ℕ
   pub vertices : ℕ
   pub edges : ℕ
   pub commits : List Commit
   pub running : List Txn
+  pub interval : ℕ
+  pub installs : List Install
 
 -- the numbers that a store begins with
 pub record Start : Type 0 where
+  pub interval : ℕ
   pub clock : ℕ
   pub vertices : ℕ
   pub edges : ℕ
 
 abbrev pub start_world : Start → World
-start_world s = record { clock = s.clock; vertices = s.vertices; edges = s.edges; commits = []; running = [] }
+start_world s = record { clock = s.clock; vertices = s.vertices; edges = s.edges; commits = []; running = []; interval = s.interval; installs = [] }
+
+-- The cut of an object: its deltas below have been moved into its history.
+abbrev pub cut_in : List Install → Oid → ℕ
+cut_in [] x = 0
+cut_in (i ∷ installs) x = if same_oid i.x x then i.mark else cut_in installs x
+
+abbrev pub cut_of : World → Oid → ℕ
+cut_of w x = cut_in w.installs x
 
 -- all writes of the commits, in order
 unfoldable pub ops_of : List Commit → List Op

@@ -1,6 +1,8 @@
-use graph_record::Object;
+use crate::{Lifted, Piece};
+use anchor_store::Found;
 use graph_value::{EdgeId, Oid, VertexId};
 use txn_manager::Rival;
+use undo_delta::GraphUndo;
 
 /// What a write did.
 #[derive(Clone, Copy, Debug, PartialEq, Eq)]
@@ -31,6 +33,8 @@ pub enum Refused {
     TimeAhead { t: u64, start: u64 },
     /// The clock can't serve another transaction.
     ClockEnd,
+    /// The object's cut is this one, and not the piece's: other deltas were moved since the piece was lifted.
+    Stale { cut: u64 },
     /// As many transactions are open as may be at once.
     TooMany,
     /// No id is left.
@@ -49,20 +53,37 @@ pub struct Marked {
     pub edges: u64,
 }
 
+/// How many deltas and blocks the store holds.
+#[derive(Clone, Copy, Debug, PartialEq, Eq)]
+pub struct Stats {
+    /// The committed deltas in all chains.
+    pub chain: u64,
+    /// The deltas in all histories.
+    pub history: u64,
+    /// The blocks of all histories.
+    pub blocks: u64,
+}
+
 /// What the store answers to an event.
-#[derive(Debug, Drop)]
+#[derive(Drop)]
 pub enum Answer {
     /// A transaction is open, with this start.
     Begun(u64),
     /// The number of the next object, `None` where there is none.
     Id(Option<u64>),
-    /// The object that was read.
-    Version(Object),
+    /// The object that was read, or the block that it is to be rebuilt from.
+    Version(Found<GraphUndo>),
     Wrote(Wrote),
     /// The timestamp of the commit, or the transaction's start where it had written nothing.
     Committed(u64),
     /// The transaction is gone, and so are its writes.
     Aborted,
     Marked(Marked),
+    Lifted(Lifted),
+    /// The piece's blocks stand in the history, and what was lifted is gone from the chain.
+    Installed,
+    /// The piece that found no memory.
+    NotInstalled(Piece),
+    Stats(Stats),
     Refused(Refused),
 }

@@ -1,6 +1,7 @@
 ghost use Rattle.std.specs.Prelude.{◌≡◌};
 ghost use Rattle.world_model.specs.Replies.{asked_by};
 
+use crate::Piece;
 use graph_value::Oid;
 use undo_delta::Ask;
 
@@ -22,7 +23,7 @@ pub enum Kind {
 }
 
 /// What one caller asks of the store in one step.
-#[derive(Debug, Drop)]
+#[derive(Drop)]
 pub enum Event {
     Begin,
     /// Which object of this kind is the first that is there, or the first above a number?
@@ -40,6 +41,12 @@ pub enum Event {
     Abort,
     /// The mark, the clock and the two counters of ids. It needs no transaction.
     Mark,
+    /// Copies what has expired of an object's chain, and changes nothing.
+    Lift(Oid),
+    /// Moves what was lifted from the object's chain into its history.
+    Install(Piece),
+    /// How many deltas and blocks there are.
+    Stats,
 }
 
 /// What an event asks to be told, as far as its answer doesn't say so itself.
@@ -60,9 +67,14 @@ impl Event {
         match self {
             Event::Next { kind, .. } => Asked::Number(*kind),
             Event::Read { x, .. } => Asked::Version(*x),
-            Event::Begin | Event::Write(_) | Event::Commit | Event::Abort | Event::Mark => {
-                Asked::Nothing
-            }
+            Event::Begin
+            | Event::Write(_)
+            | Event::Commit
+            | Event::Abort
+            | Event::Mark
+            | Event::Lift(_)
+            | Event::Install(_)
+            | Event::Stats => Asked::Nothing,
         }
     }
 }

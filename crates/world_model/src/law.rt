@@ -1,6 +1,6 @@
 //! Laws over the definitions. Each is a function that does nothing: its contract is the law, proved for every world.
 
-ghost use Rattle.std.specs.Prelude.{◌≡◌, ◌<◌, ◌≤◌, ◌↔◌, ◌++◌, true, false, ℕ, List, Option, Some, None, map, IsTrue};
+ghost use Rattle.std.specs.Prelude.{◌≡◌, ◌<◌, ◌≤◌, ◌↔◌, ◌+◌, ◌++◌, true, false, ℕ, List, Option, Some, None, length, map, IsTrue};
 ghost use Rattle.graph_value.specs.declared.id.Oid.{Oid};
 ghost use Rattle.graph_record.specs.Graph.{Graph, IsCoherent, object_at, is_dead};
 ghost use Rattle.undo_delta.specs.Change.{changed};
@@ -11,17 +11,19 @@ ghost use Rattle.undo_delta.specs.declared.op.Op.{Op};
 ghost use Rattle.world_model.specs.declared.event.Event.{Event};
 ghost use Rattle.world_model.specs.Op.{are_touching, apply, is_possible, changes, SameObjects};
 ghost use Rattle.world_model.specs.World.{World, Start, Txn, InOrder, start_world, txn_of, view_of};
-ghost use Rattle.world_model.specs.World.{fold_of, graph_at, rises, mark};
+ghost use Rattle.world_model.specs.World.{cut_of, fold_of, graph_at, ops_of, rises, mark};
+ghost use Rattle.world_model.specs.Counts.{all_left};
 ghost use Rattle.undo_law.specs.Undone.{undone};
 ghost use Rattle.undo_delta.specs.Apply.{after};
 ghost use Rattle.world_model.specs.declared.event.Kind.{Kind};
 ghost use Rattle.world_model.specs.Views.{IsNext, is_above, next_id, oid_of};
 ghost use Rattle.world_model.specs.Undo.{open_list, undo_list, undone_above};
-ghost use Rattle.world_model.specs.Placement.{expired};
+ghost use Rattle.world_model.specs.Pieces.{PieceParts};
+ghost use Rattle.world_model.specs.Placement.{below, stats_of, sum_over, IsRight};
 ghost use Rattle.world_model.specs.Asked.{op_of};
 ghost use Rattle.world_model.specs.Refusals.{write_refusal};
 ghost use Rattle.world_model.specs.Step.{step, unchanged};
-ghost use Rattle.world_model.specs.History.{Entry, IsStart, IsLegal, run, stamps_given};
+ghost use Rattle.world_model.specs.History.{Entry, IsStart, IsLegal, IsPieceOf, run, stamps_given, without_collectors};
 
 /// Every step from a world in order leaves one in order.
 pub fn steps_keep_order()
@@ -131,7 +133,31 @@ pub fn the_past_stays()
         t < (run (start_world s) es).clock →
         graph_at (run (start_world s) (es ++ later)).commits t
         ≡ graph_at (run (start_world s) es).commits t }
-    ensures expired { (s : Start) (es later : List Entry) (x : Oid) → IsStart s →
-        expired (mark (run (start_world s) es)) (undo_list (run (start_world s) (es ++ later)) x)
-        ≡ expired (mark (run (start_world s) es)) (undo_list (run (start_world s) es) x) }
+    ensures deltas { (s : Start) (es later : List Entry) (x : Oid) → IsStart s →
+        below (mark (run (start_world s) es)) (undo_list (run (start_world s) (es ++ later)) x)
+        ≡ below (mark (run (start_world s) es)) (undo_list (run (start_world s) es) x) }
+{}
+
+/// Lifts, installs and counts leave no trace: a history that the store may have is one without them too, so no other
+/// event is answered otherwise for a collector that is at work.
+pub fn collectors_are_invisible()
+    ensures { (s : Start) (es : List Entry) → IsLegal s es → IsLegal s (without_collectors es) }
+{}
+
+/// Each piece that was built of what a lift told is right for the world that the history has come to, whatever happened
+/// since. And no object has a cut above the mark.
+pub fn pieces_are_right()
+    ensures pieces { (s : Start) (es : List Entry) (piece : PieceParts) → IsStart s → IsLegal s es →
+        IsPieceOf es piece → IsRight (run (start_world s) es) piece }
+    ensures cuts { (s : Start) (es : List Entry) → IsStart s → IsLegal s es →
+        (x : Oid) → cut_of (run (start_world s) es) x ≤ mark (run (start_world s) es) }
+{}
+
+/// All objects together have as many deltas as the writes of the commits left: one for each, and three for one that
+/// makes or deletes an edge. Each of them lies in the chain of its object or in its history.
+pub fn deltas_are_counted()
+    ensures all { (w : World) → InOrder w →
+        sum_over w (λ x. length (undo_list w x)) ≡ all_left (ops_of w.commits) }
+    ensures parts { (w : World) → InOrder w →
+        (stats_of w).chain + (stats_of w).history ≡ all_left (ops_of w.commits) }
 {}

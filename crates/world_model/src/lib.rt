@@ -4,14 +4,22 @@
 mod answer;
 mod event;
 mod law;
+mod piece;
 
 /// The end of the two counters of ids: where a counter stands here, no id is left.
 pub const ID_END: u64 = 1 << 62;
 
-pub use answer::{Answer, Marked, Refused, Wrote};
+pub use answer::{Answer, Marked, Refused, Stats, Wrote};
 pub use event::{Asked, Event, Kind, When};
+pub use piece::{Lifted, Piece};
+use std::alloc::AllocError;
+
+/// Memory was wanting. No contract says when this answer comes.
+pub type NoMemory = AllocError;
+
 pub use law::{
-    commits_rise, deltas_lead_back, effects_are_seen, graphs_are_coherent, histories_keep_order,
-    marks_never_fall, objects_have_form, open_deltas_lead_back, searches_find_the_next,
-    steps_keep_order, the_past_stays, writes_are_answered, writes_change_their_objects,
+    collectors_are_invisible, commits_rise, deltas_are_counted, deltas_lead_back, effects_are_seen,
+    graphs_are_coherent, histories_keep_order, marks_never_fall, objects_have_form,
+    open_deltas_lead_back, pieces_are_right, searches_find_the_next, steps_keep_order,
+    the_past_stays, writes_are_answered, writes_change_their_objects,
 };
