@@ -12,11 +12,11 @@ use Rattle.graph_value.specs.declared.id.Oid.{Oid}
 use Rattle.txn_manager.proofs.RunningListLemmas.{differ-false, remove-at}
 use Rattle.txn_manager.specs.RunningList.{start_of, without}
 use Rattle.txn_manager.specs.declared.running.Running.{Running}
-use Rattle.front_core.specs.Books.{Book, Closed, Noted, find_txn, place_in, running_of, with_written}
+use Rattle.front_core.specs.Books.{Book, Closed, Counted, Noted, find_txn, place_in, running_of, with_deltas, with_written}
 use Rattle.front_core.specs.declared.transactions.Transaction.{Transaction}
 
 nothing : Transaction
-nothing = record { caller = 0; start = 0; written = [] }
+nothing = record { caller = 0; start = 0; deltas = 0; written = [] }
 
 number : (a b : ℕ) → (a == b) ≡ true → a ≡ b
 number a b h = eqb-true a b h
@@ -109,6 +109,17 @@ noted b new c i e more place is = subst (λ (n : Book). Noted b n c more) (sym i
     by_test d true h = ap (option_map (with_written more)) (sym (ap (find_txn b.txns) (sym (same c d h)) ∙ placed_found b.txns c i place e))
     by_test d false h = refl
 
+-- more deltas counted
+pub counted : (b new : Book) (c i : ℕ) (e : Transaction) (more : ℕ) → place_in b.txns c ≡ Some i → new ≡ record { clock = b.clock; txns = set b.txns i (with_deltas more (get_or b.txns i e)) } → Counted b new c more
+counted b new c i e more place is = subst (λ (n : Book). Counted b n c more) (sym is) (record {
+  times = ap (λ rs. record { clock = b.clock; running = rs }) (set_running b.txns c i place _ e refl);
+  found = λ d. set_finds b.txns c i place _ e refl d ∙ by_test d (nat_eq c d) refl;
+})
+  where
+    by_test : (d : ℕ) (t : Bool) → nat_eq c d ≡ t → cond t (Some (with_deltas more (get_or b.txns i e))) (find_txn b.txns d) ≡ cond t (option_map (with_deltas more) (find_txn b.txns d)) (find_txn b.txns d)
+    by_test d true h = ap (option_map (with_deltas more)) (sym (ap (find_txn b.txns) (sym (same c d h)) ∙ placed_found b.txns c i place e))
+    by_test d false h = refl
+
 some_same : {A : Type 0} {a b : A} → Some a ≡ Some b → a ≡ b
 some_same is = cc
 
@@ -123,7 +134,7 @@ shorter_is all left older taken last a b =
 -- the object that was noted last is taken off again
 pub forgot : (before b new : Book) (c i : ℕ) (e : Transaction) (x : Oid) (left : List Oid) → place_in b.txns c ≡ Some i → Noted before b c (x ∷ []) →
     ((older : List Oid) (last : Oid) → (get_or b.txns i e).written ≡ older ++ last ∷ [] → left ≡ older) →
-    new ≡ record { clock = b.clock; txns = set b.txns i (record { caller = (get_or b.txns i e).caller; start = (get_or b.txns i e).start; written = left }) } → Noted before new c []
+    new ≡ record { clock = b.clock; txns = set b.txns i (record { caller = (get_or b.txns i e).caller; start = (get_or b.txns i e).start; deltas = (get_or b.txns i e).deltas; written = left }) } → Noted before new c []
 forgot before b new c i e x left place noted_x shorter is = subst (λ (n : Book). Noted before n c []) (sym is) (record {
   times = ap (λ rs. record { clock = b.clock; running = rs }) (set_running b.txns c i place u e refl) ∙ noted_x.times;
   places = λ d. set_places b.txns c i place u e refl d ∙ noted_x.places d;
@@ -131,7 +142,7 @@ forgot before b new c i e x left place noted_x shorter is = subst (λ (n : Book)
 })
   where
     u : Transaction
-    u = record { caller = (get_or b.txns i e).caller; start = (get_or b.txns i e).start; written = left }
+    u = record { caller = (get_or b.txns i e).caller; start = (get_or b.txns i e).start; deltas = (get_or b.txns i e).deltas; written = left }
 
     here : find_txn before.txns c ≡ Some (get_or before.txns i e)
     here = placed_found before.txns c i (sym (noted_x.places c) ∙ place) e
@@ -147,8 +158,8 @@ forgot before b new c i e x left place noted_x shorter is = subst (λ (n : Book)
 
     u_is : u ≡ with_written [] (get_or before.txns i e)
     u_is =
-        ap (λ w. record { caller = (get_or b.txns i e).caller; start = (get_or b.txns i e).start; written = w }) (left_is ∙ sym (append-nil (get_or before.txns i e).written))
-        ∙ ap (λ (t : Transaction). record { caller = t.caller; start = t.start; written = (get_or before.txns i e).written ++ [] }) entry
+        ap (λ w. record { caller = (get_or b.txns i e).caller; start = (get_or b.txns i e).start; deltas = (get_or b.txns i e).deltas; written = w }) (left_is ∙ sym (append-nil (get_or before.txns i e).written))
+        ∙ ap (λ (t : Transaction). record { caller = t.caller; start = t.start; deltas = t.deltas; written = (get_or before.txns i e).written ++ [] }) entry
 
     by_test : (d : ℕ) (t : Bool) → nat_eq c d ≡ t → find_txn b.txns d ≡ cond t (option_map (with_written (x ∷ [])) (find_txn before.txns d)) (find_txn before.txns d) →
         cond t (Some u) (find_txn b.txns d) ≡ cond t (option_map (with_written []) (find_txn before.txns d)) (find_txn before.txns d)
@@ -222,19 +233,20 @@ start_is b times c i n t place is found at =
 -- NOTES ADD UP
 
 same_txn : (t : Transaction) → with_written [] t ≡ t
-same_txn t = ap (λ w. record { caller = t.caller; start = t.start; written = w }) (append-nil t.written)
+same_txn t = ap (λ w. record { caller = t.caller; start = t.start; deltas = t.deltas; written = w }) (append-nil t.written)
+
+-- nothing more is what there was
+pub noted_none : (t : Bool) (o : Option Transaction) → cond t (option_map (with_written []) o) o ≡ o
+noted_none true None = refl
+noted_none true (Some t) = ap Some (same_txn t)
+noted_none false o = refl
 
 pub noted_nothing : (b : Book) (c : ℕ) → Noted b b c []
 noted_nothing b c = record {
   times = refl;
   places = λ d. refl;
-  found = λ d. sym (by_test d (nat_eq c d) (find_txn b.txns d));
+  found = λ d. sym (noted_none (nat_eq c d) (find_txn b.txns d));
 }
-  where
-    by_test : (d : ℕ) (t : Bool) (o : Option Transaction) → cond t (option_map (with_written []) o) o ≡ o
-    by_test d true None = refl
-    by_test d true (Some t) = ap Some (same_txn t)
-    by_test d false o = refl
 
 pub noted_then : (a b d : Book) (c : ℕ) (xs ys : List Oid) → Noted a b c xs → Noted b d c ys → Noted a d c (xs ++ ys)
 noted_then a b d c xs ys first second = record {
@@ -244,7 +256,7 @@ noted_then a b d c xs ys first second = record {
 }
   where
     joined : (t : Transaction) → with_written ys (with_written xs t) ≡ with_written (xs ++ ys) t
-    joined t = ap (λ w. record { caller = t.caller; start = t.start; written = w }) (append_assoc t.written xs ys)
+    joined t = ap (λ w. record { caller = t.caller; start = t.start; deltas = t.deltas; written = w }) (append_assoc t.written xs ys)
 
     by_test : (t : Bool) (o : Option Transaction) → cond t (option_map (with_written ys) (cond t (option_map (with_written xs) o) o)) (cond t (option_map (with_written xs) o) o) ≡ cond t (option_map (with_written (xs ++ ys)) o) o
     by_test true None = refl

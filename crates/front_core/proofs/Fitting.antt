@@ -1,9 +1,10 @@
 -- How the row of an object fits the world after a begin, a write, a commit and an abort.
 use Rattle.std.proofs.Common.{◌≡◌, ℕ, ◌+◌, ◌<◌, List, [], ◌∷◌, ◌++◌, Option, Some, None, ◌⊎◌, Bool, true, false, ◌||◌, cond, map, filter, reverse, refl, sym, ap, subst, ◌∙◌, inl, inr, arith}
-use Rattle.std.specs.Prelude.{nat_eq, nat_lt, option_map, unwrap_or}
+use Rattle.std.specs.Prelude.{◌≤◌, nat_eq, nat_lt, nat_le, option_map, unwrap_or}
 use Rattle.std.proofs.lemmas.Bool.{false≢true}
 use Rattle.std.proofs.lemmas.Bool.Decides.{nat_tests}
 use Rattle.std.proofs.lemmas.List.{append_assoc, map-append}
+use Rattle.std.proofs.lemmas.List.Elements.{filter-append}
 use Rattle.graph_value.specs.declared.id.Oid.{Oid}
 use Rattle.graph_record.specs.declared.object.Object.{Object}
 use Rattle.graph_record.specs.Graph.{Graph, empty_graph, object_at}
@@ -19,9 +20,11 @@ use Rattle.world_model.specs.Change.{object_after, object_after_all}
 use Rattle.world_model.specs.Refusals.{or_else}
 use Rattle.world_model.specs.Step.{with_op, without, begun_world}
 use Rattle.world_model.specs.Undo.{both, dated, left_by, left_by_all, undo_list, open_list}
-use Rattle.world_model.specs.World.{World, Commit, Txn, find_txn, txn_of, view_of, fold_of, ops_of, before, InOrder}
+use Rattle.world_model.specs.Placement.{chain, since}
+use Rattle.world_model.specs.World.{World, Commit, Txn, find_txn, txn_of, view_of, fold_of, ops_of, before, cut_of, InOrder}
 use Rattle.world_model.proofs.Objects.{object_at-apply, object_at-apply_all, apply_all-append, are_touching-append, untouched}
 use Rattle.world_model.proofs.ObjectViews.{written_base}
+use Rattle.world_model.proofs.Pieced.{dated_kept}
 use Rattle.world_model.proofs.Txns.{find_txn-append, find_txn-with_op, find_txn-without, with_write}
 use Rattle.world_model.proofs.Begins.{begun_found, fresh, no_touch, touching_none}
 use Rattle.world_model.proofs.Writes.{Written, own, others, written_found}
@@ -108,15 +111,15 @@ module _ (w : World) (c : ℕ) (p : Txn) (found : txn_of w c ≡ Some p) (op : O
     newest' : changed op x r.newest ≡ object_at (view_of w' p') x
     newest' = ap (changed op x) newest ∙ sym (view_more ∙ ap (λ b. cond b (changed op x (object_at (view_of w p) x)) (object_at (view_of w p) x)) touched)
 
-    chain' : r.chain ≡ map open_entry (open_list w p x) ++ map committed_entry (undo_list w x) → pushed (deltas_of op x r.newest) r.chain ≡ map open_entry (open_list w' p' x) ++ map committed_entry (undo_list w x)
-    chain' chain =
+    chain' : r.chain ≡ map open_entry (open_list w p x) ++ map committed_entry (chain w x) → pushed (deltas_of op x r.newest) r.chain ≡ map open_entry (open_list w' p' x) ++ map committed_entry (chain w x)
+    chain' is =
         ap (λ o. pushed (deltas_of op x o) r.chain) newest
         ∙ pushed_front (deltas_of op x (object_at (view_of w p) x)) r.chain
-        ∙ ap (λ es. map open_entry (reverse (both (deltas_of op x (object_at (view_of w p) x)))) ++ es) chain
-        ∙ sym (append_assoc (map open_entry (reverse (both (deltas_of op x (object_at (view_of w p) x))))) (map open_entry (open_list w p x)) (map committed_entry (undo_list w x)))
-        ∙ ap (λ es. es ++ map committed_entry (undo_list w x)) (sym (map-append open_entry (reverse (both (deltas_of op x (object_at (view_of w p) x)))) (open_list w p x)))
-        ∙ ap (λ ds. map open_entry (reverse ds ++ open_list w p x) ++ map committed_entry (undo_list w x)) (sym (left_by_touch op x (object_at (view_of w p) x) touched))
-        ∙ ap (λ ds. map open_entry ds ++ map committed_entry (undo_list w x)) (sym open_more)
+        ∙ ap (λ es. map open_entry (reverse (both (deltas_of op x (object_at (view_of w p) x)))) ++ es) is
+        ∙ sym (append_assoc (map open_entry (reverse (both (deltas_of op x (object_at (view_of w p) x))))) (map open_entry (open_list w p x)) (map committed_entry (chain w x)))
+        ∙ ap (λ es. es ++ map committed_entry (chain w x)) (sym (map-append open_entry (reverse (both (deltas_of op x (object_at (view_of w p) x)))) (open_list w p x)))
+        ∙ ap (λ ds. map open_entry (reverse ds ++ open_list w p x) ++ map committed_entry (chain w x)) (sym (left_by_touch op x (object_at (view_of w p) x) touched))
+        ∙ ap (λ ds. map open_entry ds ++ map committed_entry (chain w x)) (sym open_more)
 
     written_by : (b : Option Writing) → FitsBy w x r b → (is_writer c b ≡ true) ⊎ (b ≡ None) →
         FitsBy w' x (record { newest = changed op x r.newest; chain = pushed (deltas_of op x r.newest) r.chain; writing = Some (unwrap_or b (record { caller = c; start = start; former = r.newest })) }) (Some (unwrap_or b (record { caller = c; start = start; former = r.newest })))
@@ -127,7 +130,7 @@ module _ (w : World) (c : ℕ) (p : Txn) (found : txn_of w c ≡ Some p) (op : O
         start = is_start;
         touching = touching';
         newest = newest';
-        chain = chain' (fits.chain ∙ ap (λ ds. map open_entry (reverse ds) ++ map committed_entry (undo_list w x)) (sym (left_none p.ops (fold_of (before p.start w.commits)) x (fits.untouched c p found))));
+        chain = chain' (fits.chain ∙ ap (λ ds. map open_entry (reverse ds) ++ map committed_entry (chain w x)) (sym (left_none p.ops (fold_of (before p.start w.commits)) x (fits.untouched c p found))));
         former = fits.newest;
       },
     )
@@ -140,7 +143,7 @@ module _ (w : World) (c : ℕ) (p : Txn) (found : txn_of w c ≡ Some p) (op : O
             start = fits.start ∙ ap (λ (t : Txn). t.start) (sym is);
             touching = touching';
             newest = newest';
-            chain = chain' (fits.chain ∙ ap (λ (t : Txn). map open_entry (open_list w t x) ++ map committed_entry (undo_list w x)) (sym is));
+            chain = chain' (fits.chain ∙ ap (λ (t : Txn). map open_entry (open_list w t x) ++ map committed_entry (chain w x)) (sym is));
             former = fits.former;
           },
         )
@@ -174,8 +177,8 @@ module _ (w : World) (c : ℕ) (p : Txn) (found : txn_of w c ≡ Some p) (op : O
                 start = fits.start ∙ ap (λ (t : Txn). t.start) (sym is);
                 touching = touching_more p op x ∙ ap (λ b. b || (is_touched op x || false)) (ap (λ (t : Txn). are_touching t.ops x) is ∙ fits.touching);
                 newest = fits.newest ∙ ap (λ (t : Txn). object_at (view_of w t) x) (sym is) ∙ sym (view_more ∙ ap (λ b. cond b (changed op x (object_at (view_of w p) x)) (object_at (view_of w p) x)) quiet);
-                chain = fits.chain ∙ ap (λ (t : Txn). map open_entry (open_list w t x) ++ map committed_entry (undo_list w x)) (sym is)
-                    ∙ ap (λ ds. map open_entry ds ++ map committed_entry (undo_list w x)) (sym (open_more ∙ ap (λ b. reverse (cond b (both (deltas_of op x (object_at (view_of w p) x))) []) ++ open_list w p x) quiet));
+                chain = fits.chain ∙ ap (λ (t : Txn). map open_entry (open_list w t x) ++ map committed_entry (chain w x)) (sym is)
+                    ∙ ap (λ ds. map open_entry ds ++ map committed_entry (chain w x)) (sym (open_more ∙ ap (λ b. reverse (cond b (both (deltas_of op x (object_at (view_of w p) x))) []) ++ open_list w p x) quiet));
                 former = fits.former;
               },
             )
@@ -233,7 +236,7 @@ module _ (w : World) (c : ℕ) (p : Txn) (o : InOrder w) (found : txn_of w c ≡
   aborted_by r (Some by) (q, fits) e = record {
     untouched = alone (ap (λ (t : Txn). are_touching t.ops x) (sym (is_mine r by q fits e)) ∙ fits.touching);
     newest = fits.former;
-    chain = ap (filter is_committed) fits.chain ∙ open_dropped (open_list w q x) (undo_list w x);
+    chain = ap (filter is_committed) fits.chain ∙ open_dropped (open_list w q x) (chain w x);
   }
 
   pub fits_aborted : (r : ObjectRow) → FitsRow w x r → is_writer c r.writing ≡ true → FitsRow left x (aborted_as r r.writing)
@@ -260,17 +263,24 @@ module _ (w : World) (c : ℕ) (p : Txn) (o : InOrder w) (found : txn_of w c ≡
   quiet_object : are_touching p.ops x ≡ false → object_at (fold_of (w.commits ++ k ∷ [])) x ≡ object_at (fold_of w.commits) x
   quiet_object quiet = ap (λ (g : Graph). object_at g x) folded ∙ object_at-apply_all p.ops (fold_of w.commits) x ∙ untouched p.ops x (object_at (fold_of w.commits) x) quiet
 
-  quiet_list : are_touching p.ops x ≡ false → undo_list done x ≡ undo_list w x
-  quiet_list quiet = undo_one w k x done refl ∙ ap (λ ds. dated w.clock (reverse ds) ++ undo_list w x) (left_none p.ops (fold_of w.commits) x quiet)
+  -- the chain of an object after the commit: what the commit left is at the clock, which no cut is above
+  chain_one : cut_of w x ≤ w.clock → chain done x ≡ dated w.clock (reverse (left_by_all p.ops x (fold_of w.commits))) ++ chain w x
+  chain_one low =
+      ap (since (cut_of w x)) (undo_one w k x done refl)
+      ∙ filter-append (λ d. nat_le (cut_of w x) d.ts) (dated w.clock (reverse (left_by_all p.ops x (fold_of w.commits)))) (undo_list w x)
+      ∙ ap (λ ds. ds ++ chain w x) (dated_kept (cut_of w x) w.clock (reverse (left_by_all p.ops x (fold_of w.commits))) low)
 
-  kept_by : (r : ObjectRow) (b : Option Writing) → FitsBy w x r b → is_writer c b ≡ false → FitsBy done x r b
-  kept_by r None fits not_mine =
+  quiet_list : cut_of w x ≤ w.clock → are_touching p.ops x ≡ false → chain done x ≡ chain w x
+  quiet_list low quiet = chain_one low ∙ ap (λ ds. dated w.clock (reverse ds) ++ chain w x) (left_none p.ops (fold_of w.commits) x quiet)
+
+  kept_by : (r : ObjectRow) (b : Option Writing) → cut_of w x ≤ w.clock → FitsBy w x r b → is_writer c b ≡ false → FitsBy done x r b
+  kept_by r None low fits not_mine =
       let quiet : are_touching p.ops x ≡ false = fits.untouched c p found in record {
         untouched = λ d q f. fits.untouched d q (left_found c w.running d q f).1;
         newest = fits.newest ∙ sym (quiet_object quiet);
-        chain = fits.chain ∙ ap (map committed_entry) (sym (quiet_list quiet));
+        chain = fits.chain ∙ ap (map committed_entry) (sym (quiet_list low quiet));
       }
-  kept_by r (Some by) (q, fits) not_mine =
+  kept_by r (Some by) low (q, fits) not_mine =
       let quiet : are_touching p.ops x ≡ false = o.alone by.caller c q p fits.opened found (differ_of by.caller c not_mine) x fits.touching in
       let same = same_before by.caller q fits.opened in (
         q,
@@ -279,14 +289,14 @@ module _ (w : World) (c : ℕ) (p : Txn) (o : InOrder w) (found : txn_of w c ≡
           start = fits.start;
           touching = fits.touching;
           newest = fits.newest ∙ ap (λ cs. object_at (apply_all q.ops (fold_of cs)) x) (sym same);
-          chain = fits.chain ∙ ap (λ cs. map open_entry (reverse (left_by_all q.ops x (fold_of cs))) ++ map committed_entry (undo_list w x)) (sym same)
-              ∙ ap (λ ds. map open_entry (open_list done q x) ++ map committed_entry ds) (sym (quiet_list quiet));
+          chain = fits.chain ∙ ap (λ cs. map open_entry (reverse (left_by_all q.ops x (fold_of cs))) ++ map committed_entry (chain w x)) (sym same)
+              ∙ ap (λ ds. map open_entry (open_list done q x) ++ map committed_entry ds) (sym (quiet_list low quiet));
           former = fits.former ∙ sym (quiet_object quiet);
         },
       )
 
-  pub fits_kept : (r : ObjectRow) → FitsRow w x r → is_writer c r.writing ≡ false → FitsRow done x r
-  fits_kept r fits not_mine = kept_by r r.writing fits not_mine
+  pub fits_kept : (r : ObjectRow) → cut_of w x ≤ w.clock → FitsRow w x r → is_writer c r.writing ≡ false → FitsRow done x r
+  fits_kept r low fits not_mine = kept_by r r.writing low fits not_mine
 
   own_object : are_touching p.ops x ≡ true → object_at (view_of w p) x ≡ object_at (fold_of (w.commits ++ k ∷ [])) x
   own_object touched =
@@ -294,19 +304,19 @@ module _ (w : World) (c : ℕ) (p : Txn) (o : InOrder w) (found : txn_of w c ≡
       ∙ ap (object_after_all p.ops x) (written_base w c p x o found touched)
       ∙ sym (ap (λ (g : Graph). object_at g x) folded ∙ object_at-apply_all p.ops (fold_of w.commits) x)
 
-  committed_by : (r : ObjectRow) (b : Option Writing) → FitsBy w x r b → is_writer c b ≡ true → FitsRow done x (committed_as w.clock r b)
-  committed_by r None fits e = absurd (false≢true e)
-  committed_by r (Some by) (q, fits) e =
+  committed_by : (r : ObjectRow) (b : Option Writing) → cut_of w x ≤ w.clock → FitsBy w x r b → is_writer c b ≡ true → FitsRow done x (committed_as w.clock r b)
+  committed_by r None low fits e = absurd (false≢true e)
+  committed_by r (Some by) low (q, fits) e =
       let is : q ≡ p = is_mine r by q fits e in
       let touched : are_touching p.ops x ≡ true = ap (λ (t : Txn). are_touching t.ops x) (sym is) ∙ fits.touching in record {
         untouched = alone touched;
         newest = fits.newest ∙ ap (λ (t : Txn). object_at (view_of w t) x) is ∙ own_object touched;
         chain = ap (map (stamped w.clock)) fits.chain
-            ∙ all_stamped w.clock (open_list w q x) (undo_list w x)
-            ∙ ap (λ (t : Txn). map committed_entry (dated w.clock (open_list w t x) ++ undo_list w x)) is
-            ∙ ap (λ ds. map committed_entry (dated w.clock (reverse ds) ++ undo_list w x)) (left_same p.ops (fold_of (before p.start w.commits)) (fold_of w.commits) x (written_base w c p x o found touched))
-            ∙ ap (map committed_entry) (sym (undo_one w k x done refl));
+            ∙ all_stamped w.clock (open_list w q x) (chain w x)
+            ∙ ap (λ (t : Txn). map committed_entry (dated w.clock (open_list w t x) ++ chain w x)) is
+            ∙ ap (λ ds. map committed_entry (dated w.clock (reverse ds) ++ chain w x)) (left_same p.ops (fold_of (before p.start w.commits)) (fold_of w.commits) x (written_base w c p x o found touched))
+            ∙ ap (map committed_entry) (sym (chain_one low));
       }
 
-  pub fits_committed : (r : ObjectRow) → FitsRow w x r → is_writer c r.writing ≡ true → FitsRow done x (committed_as w.clock r r.writing)
-  fits_committed r fits e = committed_by r r.writing fits e
+  pub fits_committed : (r : ObjectRow) → cut_of w x ≤ w.clock → FitsRow w x r → is_writer c r.writing ≡ true → FitsRow done x (committed_as w.clock r r.writing)
+  fits_committed r low fits e = committed_by r r.writing low fits e

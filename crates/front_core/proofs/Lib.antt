@@ -6,7 +6,12 @@ mod Placing
 mod Booked
 mod Finding
 mod Newest
+mod Recent
 mod Sight
+mod Whole
+mod Moving
+mod Expired
+mod Lifting
 mod Left
 mod Fitting
 mod Stepping
@@ -14,7 +19,10 @@ mod Ending
 mod Passing
 mod Touched
 mod Changing
+mod Tallied
 mod Written
 mod There
 mod Turning
+mod Installed
+mod Stated
 mod Starting

@@ -1,12 +1,16 @@
 -- The outline of an object after deltas is what the deltas make of its outline.
-use Rattle.std.proofs.Common.{◌≡◌, ℕ, List, [], ◌∷◌, ◌++◌, Some, fold, map, take, filter, refl, sym, ap, ◌∙◌}
-use Rattle.std.specs.Prelude.{◌+◌, slice_get}
-use Rattle.std.proofs.lemmas.List.{take-map, take_more}
+use Rattle.std.proofs.Common.{◌≡◌, ℕ, List, [], ◌∷◌, ◌++◌, Some, Bool, true, false, cond, fold, map, take, filter, refl, sym, ap, ◌∙◌}
+use Rattle.std.specs.Prelude.{◌+◌, nat_lt, slice_get}
+use Rattle.std.proofs.lemmas.List.{append-nil, take-map, take_more}
+use Rattle.std.proofs.lemmas.List.Elements.{filter-append}
 use Rattle.std.proofs.lemmas.List.Sums.{fold-append}
 use Rattle.std.proofs.lemmas.Option.{slice_get_within, get_or_from_slice_get}
 use Rattle.graph_record.specs.declared.object.Object.{Object}
 use Rattle.graph_record.specs.declared.object.Object.TheVariants as object
-use Rattle.undo_law.specs.Undone.{undone}
+use Rattle.undo_law.specs.Undone.{undone, deltas_of as dated_deltas}
+use Rattle.undo_law.specs.declared.dated.Dated.{Dated}
+use Rattle.anchor_store.specs.Groups.{later}
+use Rattle.anchor_store.proofs.Grown.{undone-append}
 use Rattle.undo_delta.specs.Apply.{after}
 use Rattle.undo_delta.specs.declared.delta.Delta.{Delta}
 use Rattle.undo_delta.specs.declared.delta.Delta.TheVariants.{DeleteObject, RecreateObject, AddLabel, RemoveLabel, SetProperty, AddInEdge, AddOutEdge, RemoveInEdge, RemoveOutEdge}
@@ -61,3 +65,22 @@ one_more o i ds d at =
     let below = slice_get_within ds i d at in
     let more : take (i + 1) ds ≡ take i ds ++ d ∷ [] = take_more ds i d below ∙ ap (λ e. take i ds ++ e ∷ []) (get_or_from_slice_get ds i d d at) in
     sym (ap (fold outline_after (outline_of o)) more ∙ fold-append outline_after (outline_of o) (take i ds) (d ∷ []))
+
+-- IN A BLOCK
+
+later_more : (t i : ℕ) (ds : List (Dated Delta)) (d : Dated Delta) → slice_get ds i ≡ Some d → later t (take (i + 1) ds) ≡ later t (take i ds) ++ later t (d ∷ [])
+later_more t i ds d at =
+    let below = slice_get_within ds i d at in
+    ap (later t) (take_more ds i d below ∙ ap (λ e. take i ds ++ e ∷ []) (get_or_from_slice_get ds i d d at))
+    ∙ filter-append (λ e. nat_lt t e.ts) (take i ds) (d ∷ [])
+
+-- one delta more was looked at, which is undone where it is later
+pub looked_further : (o : Object) (t i : ℕ) (ds : List (Dated Delta)) (d : Dated Delta) (b : Bool) → slice_get ds i ≡ Some d → nat_lt t d.ts ≡ b →
+    outline_of (undone after o (dated_deltas (later t (take (i + 1) ds)))) ≡ cond b (outline_after (outline_of (undone after o (dated_deltas (later t (take i ds))))) d.delta) (outline_of (undone after o (dated_deltas (later t (take i ds)))))
+looked_further o t i ds d b at test =
+    ap (λ es. outline_of (undone after o (dated_deltas es))) (later_more t i ds d at ∙ ap (λ c. later t (take i ds) ++ cond c (d ∷ []) []) test)
+    ∙ by_test b
+  where
+    by_test : (c : Bool) → outline_of (undone after o (dated_deltas (later t (take i ds) ++ cond c (d ∷ []) []))) ≡ cond c (outline_after (outline_of (undone after o (dated_deltas (later t (take i ds))))) d.delta) (outline_of (undone after o (dated_deltas (later t (take i ds)))))
+    by_test true = ap outline_of (undone-append after o (later t (take i ds)) (d ∷ [])) ∙ part_outline (undone after o (dated_deltas (later t (take i ds)))) d.delta
+    by_test false = ap (λ es. outline_of (undone after o (dated_deltas es))) (append-nil (later t (take i ds)))

@@ -1,5 +1,5 @@
 -- What a row tells a reader and a writer is what the world says.
-use Rattle.std.proofs.Common.{◌≡◌, ℕ, List, [], ◌∷◌, ◌++◌, Option, Some, None, Bool, true, false, cond, fold, map, filter, refl, sym, ap, subst, ◌∙◌}
+use Rattle.std.proofs.Common.{◌≡◌, ℕ, ◌+◌, ◌≤◌, List, [], ◌∷◌, ◌++◌, Option, Some, None, Bool, true, false, cond, fold, map, filter, refl, sym, ap, subst, ◌∙◌, arith}
 use Rattle.std.specs.Prelude.{nat_eq, nat_lt, option_map}
 use Rattle.std.specs.List.{filter_map}
 use Rattle.std.proofs.lemmas.Bool.{false≢true}
@@ -17,7 +17,8 @@ use Rattle.version_chain.specs.Parts.{deltas_of, first_of, timestamps_of, versio
 use Rattle.version_chain.specs.declared.entry.Entry.{Entry}
 use Rattle.world_model.specs.Op.{are_touching}
 use Rattle.world_model.specs.Undo.{undo_list, undone_above, open_list}
-use Rattle.world_model.specs.World.{World, Txn, find_txn, txn_of, view_of, fold_of, graph_at, InOrder, other_writer, newest_touch, rival_at}
+use Rattle.world_model.specs.Placement.{chain}
+use Rattle.world_model.specs.World.{World, Txn, find_txn, txn_of, view_of, fold_of, graph_at, InOrder, other_writer, newest_touch, rival_at, cut_of, mark}
 use Rattle.world_model.proofs.Undo.{instant_undone}
 use Rattle.world_model.proofs.OpenUndo.{written_undone}
 use Rattle.world_model.proofs.ObjectViews.{unwritten_view, unrivalled_view}
@@ -28,11 +29,13 @@ use Rattle.front_core.specs.Rows.{ObjectRow, is_writer, other_start, row_at_inst
 use Rattle.front_core.specs.declared.row.Writing.{Writing}
 use Rattle.front_core.proofs.Finding.{differ_of, equal_of, nobody, same_writer, some_same, somebody, swapped}
 use Rattle.front_core.proofs.Newest.{newest_is_touch}
+use Rattle.front_core.proofs.Recent.{chain_later, same_rival}
+use Rattle.world_model.proofs.Marks.{mark_of_open}
 
 -- THE DELTAS THAT ARE UNDONE
 
 -- of the commits' deltas those above the instant
-committed_after : (t : ℕ) (ds : List (Dated Delta)) → deltas_of (filter (is_after t) (map committed_entry ds)) ≡ law.deltas_of (filter (λ d. nat_lt t d.ts) ds)
+pub committed_after : (t : ℕ) (ds : List (Dated Delta)) → deltas_of (filter (is_after t) (map committed_entry ds)) ≡ law.deltas_of (filter (λ d. nat_lt t d.ts) ds)
 committed_after t [] = refl
 committed_after t (d ∷ ds) = by_test (committed_after t ds) (nat_lt t d.ts)
   where
@@ -41,7 +44,7 @@ committed_after t (d ∷ ds) = by_test (committed_after t ds) (nat_lt t d.ts)
     by_test rest false = rest
 
 -- and all open ones before them
-all_after : (t : ℕ) (os : List Delta) (ds : List (Dated Delta)) → deltas_of (filter (is_after t) (map open_entry os ++ map committed_entry ds)) ≡ os ++ law.deltas_of (filter (λ d. nat_lt t d.ts) ds)
+pub all_after : (t : ℕ) (os : List Delta) (ds : List (Dated Delta)) → deltas_of (filter (is_after t) (map open_entry os ++ map committed_entry ds)) ≡ os ++ law.deltas_of (filter (λ d. nat_lt t d.ts) ds)
 all_after t [] ds = committed_after t ds
 all_after t (o ∷ os) ds = ap (λ es. o ∷ es) (all_after t os ds)
 
@@ -56,31 +59,36 @@ all_stamps (o ∷ os) ds = all_stamps os ds
 module _ (w : World) (o : InOrder w) (x : Oid) where
   -- AN INSTANT
 
-  instant_unwritten : (t : ℕ) (r : ObjectRow) → Unwritten w x r → row_at_instant t r ≡ object_at (graph_at w.commits t) x
-  instant_unwritten t r fits =
+  instant_unwritten : (t : ℕ) (r : ObjectRow) → cut_of w x ≤ t + 1 → Unwritten w x r → row_at_instant t r ≡ object_at (graph_at w.commits t) x
+  instant_unwritten t r recent fits =
       ap (λ (n : Object). version after n r.chain t) fits.newest
       ∙ ap (λ (es : List (Entry Delta)). version after (object_at (fold_of w.commits) x) es t) fits.chain
-      ∙ ap (fold after (object_at (fold_of w.commits) x)) (committed_after t (undo_list w x))
+      ∙ ap (fold after (object_at (fold_of w.commits) x)) (committed_after t (chain w x) ∙ ap law.deltas_of (chain_later w x t recent))
       ∙ sym (instant_undone w t x o)
 
-  instant_written : (t : ℕ) (r : ObjectRow) (by : Writing) (p : Txn) → WrittenBy w x r by p → row_at_instant t r ≡ object_at (graph_at w.commits t) x
-  instant_written t r by p fits =
+  instant_written : (t : ℕ) (r : ObjectRow) (by : Writing) (p : Txn) → cut_of w x ≤ t + 1 → WrittenBy w x r by p → row_at_instant t r ≡ object_at (graph_at w.commits t) x
+  instant_written t r by p recent fits =
       ap (λ (n : Object). version after n r.chain t) fits.newest
       ∙ ap (λ (es : List (Entry Delta)). version after (object_at (view_of w p) x) es t) fits.chain
-      ∙ ap (fold after (object_at (view_of w p) x)) (all_after t (open_list w p x) (undo_list w x))
+      ∙ ap (fold after (object_at (view_of w p) x)) (all_after t (open_list w p x) (chain w x) ∙ ap (λ ds. open_list w p x ++ law.deltas_of ds) (chain_later w x t recent))
       ∙ fold-append after (object_at (view_of w p) x) (open_list w p x) (law.deltas_of (filter (λ d. nat_lt t d.ts) (undo_list w x)))
       ∙ written_undone w t by.caller p x o fits.opened fits.touching
 
-  instant_by : (t : ℕ) (r : ObjectRow) (b : Option Writing) → FitsBy w x r b → row_at_instant t r ≡ object_at (graph_at w.commits t) x
-  instant_by t r None fits = instant_unwritten t r fits
-  instant_by t r (Some by) fits = instant_written t r by fits.0 fits.1
+  instant_by : (t : ℕ) (r : ObjectRow) (b : Option Writing) → cut_of w x ≤ t + 1 → FitsBy w x r b → row_at_instant t r ≡ object_at (graph_at w.commits t) x
+  instant_by t r None recent fits = instant_unwritten t r recent fits
+  instant_by t r (Some by) recent fits = instant_written t r by fits.0 recent fits.1
 
-  pub instant_is : (t : ℕ) (r : ObjectRow) → FitsRow w x r → row_at_instant t r ≡ object_at (graph_at w.commits t) x
-  instant_is t r fits = instant_by t r r.writing fits
+  -- the chain tells each instant that isn't below the cut
+  pub instant_is : (t : ℕ) (r : ObjectRow) → cut_of w x ≤ t + 1 → FitsRow w x r → row_at_instant t r ≡ object_at (graph_at w.commits t) x
+  instant_is t r recent fits = instant_by t r r.writing recent fits
 
   -- A VIEW
 
-  module _ (c : ℕ) (p : Txn) (found : txn_of w c ≡ Some p) (r : ObjectRow) where
+  module _ (low : cut_of w x ≤ mark w) (c : ℕ) (p : Txn) (found : txn_of w c ≡ Some p) (r : ObjectRow) where
+    -- no cut is past the transaction's start
+    below_start : cut_of w x ≤ p.start
+    below_start = let first : mark w ≤ p.start = mark_of_open w c p found in omega (arith, low, first)
+
     -- whether the caller has written the object
     pub own_touch : (b : Option Writing) → FitsBy w x r b → is_writer c b ≡ are_touching p.ops x
     own_touch None fits = sym (fits.untouched c p found)
@@ -100,7 +108,7 @@ module _ (w : World) (o : InOrder w) (x : Oid) where
       where
         by_writer : (b : Bool) → is_writer c r.writing ≡ b → cond b r.newest (row_at_instant p.start r) ≡ object_at (view_of w p) x
         by_writer true e = own_newest r.writing fits e
-        by_writer false e = instant_is p.start r fits ∙ sym (unwritten_view w c p x o found (sym (own_touch r.writing fits) ∙ e))
+        by_writer false e = instant_is p.start r (omega (arith, below_start)) fits ∙ sym (unwritten_view w c p x o found (sym (own_touch r.writing fits) ∙ e))
 
     -- WHO STANDS IN THE WAY
 
@@ -117,14 +125,16 @@ module _ (w : World) (o : InOrder w) (x : Oid) where
         by_test false e =
             ap Some fits.1.start ∙ sym (ap (option_map (λ (q : Txn). q.start)) (somebody w o x c by.caller fits.0 fits.1.opened fits.1.touching e))
 
-    newest_stamp : (b : Option Writing) → FitsBy w x r b → first_of (timestamps_of r.chain) ≡ newest_touch w.commits x
-    newest_stamp None fits = ap (λ (es : List (Entry Delta)). first_of (timestamps_of es)) fits.chain ∙ ap first_of (committed_stamps (undo_list w x)) ∙ newest_is_touch w x o
-    newest_stamp (Some by) fits = ap (λ (es : List (Entry Delta)). first_of (timestamps_of es)) fits.1.chain ∙ ap first_of (all_stamps (open_list w fits.0 x) (undo_list w x)) ∙ newest_is_touch w x o
+    newest_stamp : (b : Option Writing) → FitsBy w x r b → first_of (timestamps_of r.chain) ≡ first_of (map (λ d. d.ts) (chain w x))
+    newest_stamp None fits = ap (λ (es : List (Entry Delta)). first_of (timestamps_of es)) fits.chain ∙ ap first_of (committed_stamps (chain w x))
+    newest_stamp (Some by) fits = ap (λ (es : List (Entry Delta)). first_of (timestamps_of es)) fits.1.chain ∙ ap first_of (all_stamps (open_list w fits.0 x) (chain w x))
 
     pub rival_is : FitsRow w x r → row_rival c p.start r ≡ rival_at w p x
     rival_is fits =
         ap (λ s. rival_of p.start s (first_of (timestamps_of r.chain))) (other_is r.writing fits)
         ∙ ap (rival_of p.start (option_map (λ (q : Txn). q.start) (other_writer w.running c x))) (newest_stamp r.writing fits)
+        ∙ same_rival w x p.start (option_map (λ (q : Txn). q.start) (other_writer w.running c x)) o below_start
+        ∙ ap (rival_of p.start (option_map (λ (q : Txn). q.start) (other_writer w.running c x))) (newest_is_touch w x o)
         ∙ ap (λ n. rival_of p.start (option_map (λ (q : Txn). q.start) (other_writer w.running n x)) (newest_touch w.commits x)) (sym caller_is)
 
     -- WHERE NOBODY DOES

@@ -33,16 +33,28 @@ place_in txns caller = position (λ t. t.caller == caller) txns
 
 -- a transaction of the caller has begun at the clock, which rose by one
 abbrev pub opened : Book → ℕ → Book
-opened b caller = record { clock = b.clock + 1; txns = b.txns ++ record { caller = caller; start = b.clock; written = [] } ∷ [] }
+opened b caller = record { clock = b.clock + 1; txns = b.txns ++ record { caller = caller; start = b.clock; deltas = 0; written = [] } ∷ [] }
 
 abbrev pub with_written : List Oid → Transaction → Transaction
-with_written more t = record { caller = t.caller; start = t.start; written = t.written ++ more }
+with_written more t = record { caller = t.caller; start = t.start; deltas = t.deltas; written = t.written ++ more }
 
 -- the caller's transaction has written these objects too, and all else stays
 pub record Noted (old new : Book) (caller : ℕ) (more : List Oid) : Type 0 where
   pub times : times_of new ≡ times_of old
   pub places : (d : ℕ) → place_in new.txns d ≡ place_in old.txns d
   pub found : (d : ℕ) → find_txn new.txns d ≡ (if nat_eq caller d then option_map (with_written more) (find_txn old.txns d) else find_txn old.txns d)
+
+-- the greatest number of deltas that can be counted
+abbrev pub MOST_DELTAS : ℕ
+MOST_DELTAS = 18446744073709551615
+
+abbrev pub with_deltas : ℕ → Transaction → Transaction
+with_deltas more t = record { caller = t.caller; start = t.start; deltas = t.deltas + more; written = t.written }
+
+-- so many more deltas of the caller's transaction were counted, and all else stays
+pub record Counted (old new : Book) (caller : ℕ) (more : ℕ) : Type 0 where
+  pub times : times_of new ≡ times_of old
+  pub found : (d : ℕ) → find_txn new.txns d ≡ (if nat_eq caller d then option_map (with_deltas more) (find_txn old.txns d) else find_txn old.txns d)
 
 -- the caller's transaction is gone, and the others stay
 pub record Closed (old new : Book) (caller now : ℕ) : Type 0 where

@@ -6,3 +6,5 @@ pub mod Objects
 pub mod Books
 pub mod Keeps
 pub mod Opened
+pub mod History
+pub mod Histories

@@ -10,7 +10,7 @@ use Rattle.undo_delta.specs.Change.{changed, deltas_of}
 use Rattle.undo_delta.specs.declared.delta.Delta.{Delta}
 use Rattle.undo_delta.specs.declared.delta.DeltaPair.{DeltaPair}
 use Rattle.undo_delta.specs.declared.op.Op.{Op}
-use Rattle.version_chain.specs.Entry.{open_entry, is_committed, stamped}
+use Rattle.version_chain.specs.Entry.{open_entry, is_committed, is_not_before, stamped}
 use Rattle.version_chain.specs.Parts.{version, timestamps_of, first_of}
 use Rattle.version_chain.specs.declared.entry.Entry.{Entry}
 use Rattle.front_core.specs.declared.row.Writing.{Writing}
@@ -98,3 +98,9 @@ IsStampFor ts r (Some w) = All (λ older. older < ts) (timestamps_of r.chain)
 
 abbrev pub MayCommit : ℕ → ObjectRow → Type 0
 MayCommit ts r = IsStampFor ts r r.writing
+
+-- CUTTING
+
+-- without the deltas that were committed before a mark
+abbrev pub cut_row : ℕ → ObjectRow → ObjectRow
+cut_row mark r = record r { chain = filter (is_not_before mark) r.chain }

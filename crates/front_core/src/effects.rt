@@ -4,6 +4,7 @@ ghost use Rattle.graph_value.specs.Value.{same_value};
 ghost use Rattle.graph_record.specs.Graph.{Graph};
 ghost use Rattle.undo_delta.specs.Change.{has_label, is_without_edges, kept, value_at};
 ghost use Rattle.world_model.specs.Asked.{named, op_of, wrote_of};
+ghost use Rattle.world_model.specs.Counts.{deltas_left};
 ghost use Rattle.world_model.specs.World.{World};
 ghost use Rattle.undo_delta.specs.declared.ask.Ask.{Ask as AnyAsk};
 
@@ -49,6 +50,16 @@ pub(crate) fn wrote(op: &Op) -> Wrote
         Op::CreateVertex(v) => Wrote::Vertex(*v),
         Op::CreateEdge { id, .. } => Wrote::Edge(*id),
         _ => Wrote::Done,
+    }
+}
+
+/// How many deltas a write leaves that changes something.
+pub(crate) fn deltas_left(op: &Op) -> u64
+    ensures { result ≡ deltas_left op.now }
+{
+    match op {
+        Op::CreateEdge { .. } | Op::DeleteEdge { .. } => 3,
+        _ => 1,
     }
 }
 

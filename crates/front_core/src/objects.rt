@@ -3,7 +3,8 @@ ghost use Rattle.std.specs.Option.{option_copied};
 ghost use Rattle.graph_value.specs.declared.id.Oid.TheVariants as oid;
 ghost use Rattle.undo_delta.specs.Change.{is_possible};
 ghost use Rattle.undo_delta.specs.Touch.{is_touched, joined};
-ghost use Rattle.front_core.specs.Rows.{aborted_row, committed_row, no_row, written_row, MayCommit};
+ghost use Rattle.front_core.specs.Rows.{aborted_row, committed_row, cut_row, no_row, written_row, MayCommit};
+ghost use Rattle.world_model.specs.Op.{is_given};
 ghost use Rattle.graph_value.specs.declared.id.Oid.{Oid as AnyOid};
 ghost use Rattle.front_core.specs.Objects.{Ended, Grown, Has, Replaced, Rewritten, Unmoved, made_edges, made_vertices, range_of, row_at};
 ghost use Rattle.front_core.specs.Tables.{next_of};
@@ -44,6 +45,17 @@ impl Objects {
         match x {
             Oid::Vertex(v) => self.vertices.get(v.0),
             Oid::Edge(e) => self.edges.get(e.0),
+        }
+    }
+
+    /// The row of an object, or `nobody`, the row of what nobody has made.
+    pub fn row_or<'a>(&'a self, x: Oid, nobody: &'a Row) -> &'a Row
+        requires { nobody.now ≡ no_row }
+        ensures { result.now ≡ row_at self.now x }
+    {
+        match self.row(x) {
+            Some(row) => row,
+            None => nobody,
         }
     }
 
@@ -178,6 +190,26 @@ impl Objects {
         match x {
             Oid::Vertex(v) => self.vertices.abort(v.0),
             Oid::Edge(e) => self.edges.abort(e.0),
+        }
+    }
+
+    /// Drops the deltas of an object that were committed before the mark, if it has a row.
+    pub fn cut_below(&mut self, x: Oid, mark: u64)
+        ensures { Replaced self.old self.new x (cut_row mark (row_at self.old x)) }
+    {
+        match x {
+            Oid::Vertex(v) => self.vertices.cut_below(v.0, mark),
+            Oid::Edge(e) => self.edges.cut_below(e.0, mark),
+        }
+    }
+
+    /// Whether the number of an object was given out.
+    pub fn is_given(&self, x: Oid) -> bool
+        ensures { result ≡ is_given (next_of self.now.vertices) (next_of self.now.edges) x }
+    {
+        match x {
+            Oid::Vertex(v) => v.0 < self.vertices.next(),
+            Oid::Edge(e) => e.0 < self.edges.next(),
         }
     }
 

@@ -1,9 +1,12 @@
 ghost use Rattle.std.specs.Prelude.{◌≡◌};
+ghost use Rattle.undo_delta.specs.Apply.{after};
+ghost use Rattle.anchor_store.specs.Blocks.{version};
 ghost use Rattle.front_core.specs.Outlines.{is_absent, outline_after, outline_end, outline_of, outline_start};
 
+use anchor_store::Block;
 use graph_record::Object;
 use graph_value::VertexId;
-use undo_delta::Delta;
+use undo_delta::{Delta, GraphUndo};
 
 /// What an object is, without its parts. It is found without memory and without a copy.
 #[derive(Clone, Copy, Debug)]
@@ -36,6 +39,19 @@ impl Outline {
             Delta::RecreateObject(former) => Outline::of(former.as_object()),
             _ => self,
         }
+    }
+
+    /// The outline of the object that a block has at the instant t.
+    pub fn in_block(block: &Block<GraphUndo>, t: u64) -> Outline
+        ensures { result ≡ outline_of (version after block.now t) }
+    {
+        let mut outline = Outline::of(block.anchor());
+        for dated in block.deltas() {
+            if t < dated.ts {
+                outline = outline.after(&dated.delta);
+            }
+        }
+        outline
     }
 
     pub fn is_absent(self) -> bool

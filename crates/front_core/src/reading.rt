@@ -2,24 +2,33 @@
 ghost use Rattle.std.specs.Prelude.{◌≡◌, ◌≤◌, ◌<◌, ℕ, IfOk, IfSome, IfNone};
 ghost use Rattle.graph_record.specs.Graph.{object_at};
 ghost use Rattle.world_model.specs.Views.{first_above, graph_of, next_id, oid_of, time_ahead};
-ghost use Rattle.world_model.specs.World.{World, Txn};
-ghost use Rattle.front_core.specs.Keeps.{ObeysAll};
+ghost use Rattle.undo_delta.specs.Apply.{after};
+ghost use Rattle.anchor_store.specs.Found.{found_object};
+ghost use Rattle.world_model.specs.World.{World, Txn, graph_at, view_of};
+ghost use Rattle.world_model.specs.Reply.{reply_of};
+ghost use Rattle.front_core.specs.Keeps.{Keeps, ObeysAll};
 ghost use Rattle.front_core.specs.Opened.{Opened};
 ghost use Rattle.front_core.specs.Outlines.{outline_of};
 
 use crate::NoMemory;
 use crate::outline::Outline;
+use crate::row::Row;
 use crate::state::State;
+use anchor_store::{Found, finish};
 use graph_record::Object;
 use graph_value::{EdgeId, Oid, VertexId};
 use std::alloc::Global;
+use std::marker::Brand;
+use std::sync::ledger::{Blank, Ledger};
+use undo_delta::GraphUndo;
+use undo_law::Steps;
 use world_model::{Answer, Event, Kind, Refused, When};
 
 impl State {
     /// Answers a read of an object.
     pub fn read(&self, alloc: Global, caller: u64, x: Oid, when: When) -> Answer
         ensures { ObeysAll self.now self.now
-            (record { caller = caller; event = Event.Read x when; reply = result }) }
+            (record { caller = caller; event = Event.Read x when; reply = reply_of result }) }
     {
         let Some(place) = self.transactions.find(caller) else {
             return Answer::Refused(Refused::NoTxn);
@@ -29,7 +38,7 @@ impl State {
             return Answer::Refused(why);
         }
         match self.version(alloc, caller, start, x, when) {
-            Ok(object) => Answer::Version(object),
+            Ok(object) => Answer::Version(Found::Ready(object)),
             Err(_) => Answer::Refused(Refused::NoMemory),
         }
     }
@@ -37,7 +46,7 @@ impl State {
     /// Answers a search for the next object of a kind.
     pub fn next(&self, caller: u64, kind: Kind, after: Option<u64>, when: When) -> Answer
         ensures { ObeysAll self.now self.now
-            (record { caller = caller; event = Event.Next kind after when; reply = result }) }
+            (record { caller = caller; event = Event.Next kind after when; reply = reply_of result }) }
     {
         let Some(place) = self.transactions.find(caller) else {
             return Answer::Refused(Refused::NoTxn);
@@ -61,13 +70,35 @@ impl State {
         ensures { IfOk result (λ object. (w : World) (p : Txn) → Opened self.now w caller start p →
             object ≡ object_at (graph_of w p when) x) }
     {
-        let Some(row) = self.objects.row(x) else {
-            return Ok(Object::Dead);
-        };
         match when {
-            When::Own => row.seen(alloc, caller, start),
-            When::At(t) => row.at_instant(alloc, t),
+            When::Own => self.seen(alloc, caller, start, x),
+            When::At(t) => {
+                let found = self.at_instant(alloc, x, t)?;
+                finished::<Brand>(alloc, Blank::new(1), found)
+            }
         }
+    }
+
+    /// The object as the caller's transaction sees it.
+    fn seen(&self, alloc: Global, caller: u64, start: u64, x: Oid) -> Result<Object, NoMemory>
+        ensures { IfOk result (λ object. (w : World) (p : Txn) → Opened self.now w caller start p →
+            object ≡ object_at (view_of w p) x) }
+    {
+        match self.objects.row(x) {
+            Some(row) => row.seen(alloc, caller, start),
+            None => Ok(Object::Dead),
+        }
+    }
+
+    /// The object at an instant, or the block to rebuild it from.
+    fn at_instant(&self, alloc: Global, x: Oid, t: u64) -> Result<Found<GraphUndo>, NoMemory>
+        ensures { IfOk result (λ found. (w : World) → Keeps self.now w →
+            found_object after found ≡ object_at (graph_at w.commits t) x) }
+    {
+        let nobody = Row::new(alloc);
+        let row = self.objects.row_or(x, &nobody);
+        self.histories
+            .version(alloc, x, row.newest(), row.chain(), t)
     }
 
     /// What the object is in the graph that is meant, without its parts. It takes no memory.
@@ -75,12 +106,32 @@ impl State {
         ensures { (w : World) (p : Txn) → Opened self.now w caller start p →
             result ≡ outline_of (object_at (graph_of w p when) x) }
     {
-        let Some(row) = self.objects.row(x) else {
-            return Outline::Dead;
-        };
         match when {
-            When::Own => row.outline_seen(caller, start),
-            When::At(t) => row.outline_at(t),
+            When::Own => self.outline_seen(caller, start, x),
+            When::At(t) => self.outline_at(x, t),
+        }
+    }
+
+    fn outline_seen(&self, caller: u64, start: u64, x: Oid) -> Outline
+        ensures { (w : World) (p : Txn) → Opened self.now w caller start p →
+            result ≡ outline_of (object_at (view_of w p) x) }
+    {
+        match self.objects.row(x) {
+            Some(row) => row.outline_seen(caller, start),
+            None => Outline::Dead,
+        }
+    }
+
+    fn outline_at(&self, x: Oid, t: u64) -> Outline
+        ensures { (w : World) → Keeps self.now w →
+            result ≡ outline_of (object_at (graph_at w.commits t) x) }
+    {
+        if let Some(block) = self.histories.locate(x, t) {
+            return Outline::in_block(block, t);
+        }
+        match self.objects.row(x) {
+            Some(row) => row.outline_at(t),
+            None => Outline::Dead,
         }
     }
 
@@ -113,6 +164,21 @@ impl State {
         }
         None
     }
+}
+
+/// Rebuilds what was found from its block, if it isn't ready.
+fn finished<L: Ledger>(
+    alloc: Global,
+    blank: Blank,
+    found: Found<GraphUndo>,
+) -> Result<Object, NoMemory>
+    requires name { blank.name ≡ L.name }
+    requires parts { blank.parts ≡ L.parts }
+    requires some { 0 < L.parts }
+    ensures { IfOk result (λ object. object ≡ found_object after found) }
+{
+    let mut steps = Steps::<L>::open(blank);
+    finish(alloc, found, &mut steps)
 }
 
 /// The first number of a row that is above the given one, `None` where that is past the last row.

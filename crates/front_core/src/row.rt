@@ -1,8 +1,10 @@
 ghost use Rattle.std.specs.Prelude.{◌≡◌, ◌≤◌, ◌+◌, None, IfOk, OnOk, OnErr, IsTrue, is_none, is_some, if◌then◌else◌};
+ghost use Rattle.undo_delta.specs.Apply.{after};
 ghost use Rattle.undo_delta.specs.Change.{is_possible};
 ghost use Rattle.undo_delta.specs.Touch.{is_touched, joined};
+ghost use Rattle.version_chain.specs.Parts.{dated_before, object_before};
 ghost use Rattle.front_core.specs.Outlines.{outline_of};
-ghost use Rattle.front_core.specs.Rows.{aborted_row, begun_row, changed_row, committed_row, is_writer, no_row, other_start, push_some, pushed, row_at_instant, row_rival, seen, written_row, MayCommit};
+ghost use Rattle.front_core.specs.Rows.{aborted_row, begun_row, changed_row, committed_row, cut_row, is_writer, no_row, other_start, push_some, pushed, row_at_instant, row_rival, seen, written_row, MayCommit};
 ghost use Rattle.front_core.specs.RoomFor.{count_of, delta_count};
 
 use crate::NoMemory;
@@ -13,6 +15,7 @@ use std::alloc::Global;
 use std::marker::Model;
 use txn_manager::{Rival, rival};
 use undo_delta::{Delta, DeltaPair, GraphUndo, Op, change};
+use undo_law::Tail;
 use version_chain::Chain;
 
 /// The open transaction that writes an object.
@@ -69,6 +72,13 @@ impl Row {
         &self.newest
     }
 
+    /// The deltas behind it.
+    pub fn chain(&self) -> &Chain<GraphUndo>
+        ensures { result.now.entries ≡ self.now.chain }
+    {
+        &self.chain
+    }
+
     /// Whether an open transaction writes the object.
     pub fn is_written(&self) -> bool
         ensures { result ≡ is_some self.now.writing }
@@ -108,6 +118,15 @@ impl Row {
         ensures { IfOk result (λ o. o ≡ row_at_instant t self.now) }
     {
         self.chain.version_at(alloc, &self.newest, t)
+    }
+
+    /// The deltas that were committed before the mark, and the object after the newest of them.
+    pub fn tail_below(&self, alloc: Global, mark: u64) -> Result<Tail<GraphUndo>, NoMemory>
+        ensures object { IfOk result (λ tail.
+            tail.newest ≡ object_before after self.now.newest self.now.chain mark) }
+        ensures deltas { IfOk result (λ tail. tail.deltas ≡ dated_before self.now.chain mark) }
+    {
+        self.chain.tail_below(alloc, &self.newest, mark)
     }
 
     /// The object as the transaction of the caller, which began at `start`, sees it.
@@ -234,6 +253,13 @@ impl Row {
             self.newest = former;
             self.chain.drop_open();
         }
+    }
+
+    /// Drops the deltas that were committed before the mark. It costs what it drops, and takes no memory.
+    pub fn cut_below(&mut self, mark: u64)
+        ensures { self.new ≡ cut_row mark self.old }
+    {
+        let _ = self.chain.cut_below(mark);
     }
 }
 

@@ -2,7 +2,7 @@ ghost use Rattle.std.specs.Prelude.{◌≡◌, ◌≤◌, ◌<◌, ◌+◌, ◌-
 ghost use Rattle.std.specs.Option.{option_copied};
 ghost use Rattle.undo_delta.specs.Change.{is_possible};
 ghost use Rattle.undo_delta.specs.Touch.{is_touched, joined};
-ghost use Rattle.front_core.specs.Rows.{aborted_row, committed_row, no_row, written_row, MayCommit};
+ghost use Rattle.front_core.specs.Rows.{aborted_row, committed_row, cut_row, no_row, written_row, MayCommit};
 ghost use Rattle.front_core.specs.Tables.{HasRow, next_of, row_of, with_row};
 
 use crate::NoMemory;
@@ -168,6 +168,15 @@ impl Rows {
     {
         if let Some(at) = self.place(number) {
             self.rows[at].abort();
+        }
+    }
+
+    /// Drops the deltas before the mark in the row of this number, if it has one.
+    pub fn cut_below(&mut self, number: u64, mark: u64)
+        ensures { self.new ≡ with_row self.old number (cut_row mark (row_of self.old number)) }
+    {
+        if let Some(at) = self.place(number) {
+            self.rows[at].cut_below(mark);
         }
     }
 }

@@ -1,12 +1,15 @@
 ghost use Rattle.std.specs.Prelude.{◌≡◌, ◌≤◌, List, [], ◌∷◌, ◌++◌, IfOk};
 ghost use Rattle.world_model.specs.World.{Start, start_world};
-ghost use Rattle.world_model.specs.History.{Entry, IsAnswered, run};
-ghost use Rattle.world_model.specs.Replies.{IsReplyTo};
+ghost use Rattle.world_model.specs.History.{Entry, IsAnswered, MayStand, run};
+ghost use Rattle.world_model.specs.Reply.{reply_of};
+ghost use Rattle.world_model.specs.Replies.{HandsBack, IsReplyTo};
 
 use crate::NoMemory;
+use crate::histories::Histories;
 use crate::objects::Objects;
 use crate::rows::Rows;
 use crate::state::State;
+use crate::tally::Tally;
 use crate::transactions::Transactions;
 use std::alloc::Global;
 use std::marker::Model;
@@ -36,14 +39,13 @@ impl Model for Core {
 }
 
 impl Core {
-    ghost use Rattle.front_core.specs.Keeps.{StandsFor, first_start};
+    ghost use Rattle.front_core.specs.Keeps.{MayAsk, StandsFor, first_start};
 
-    /// A store in which nothing has happened. `k` is how many deltas a block of history will hold, from 1 to 1,024;
-    /// as long as there is no history, nothing depends on it.
+    /// A store in which nothing has happened. `k` is how many deltas a block of history holds, from 1 to 1,024.
     pub fn new(alloc: Global, k: u64) -> Result<Core, NoMemory>
         requires at_least { 1 ≤ k }
         requires at_most { k ≤ 1024 }
-        ensures { IfOk result (λ core. StandsFor first_start core []) }
+        ensures { IfOk result (λ core. StandsFor (first_start k) core []) }
     {
         Core::new_at(alloc, k, 1, 0, 0)
     }
@@ -64,15 +66,19 @@ impl Core {
         requires vertex_range { vertices ≤ ID_END }
         requires edge_range { edges ≤ ID_END }
         ensures { IfOk result (λ core.
-            StandsFor (record { clock = clock; vertices = vertices; edges = edges }) core []) }
+            StandsFor (record { interval = k; clock = clock; vertices = vertices; edges = edges }) core []) }
     {
-        let _ = k;
         Ok(Core {
             state: State {
                 transactions: Transactions::new(alloc, clock),
                 objects: Objects {
                     vertices: Rows::new(alloc, vertices),
                     edges: Rows::new(alloc, edges),
+                },
+                histories: Histories::new(alloc, k, vertices, edges),
+                tally: Tally {
+                    committed: 0,
+                    all: 0,
                 },
             },
         })
@@ -83,15 +89,20 @@ impl Core {
     /// For every legal history that the core stands for, the answer is the one that the history's world gives, or
     /// `NoMemory` where nothing else is refused and the event is no commit, no abort and no mark; afterwards the core
     /// stands for the history with this entry. A refusal leaves the same world.
+    ///
+    /// A piece that is installed was built of what some history that the core stands for lifted.
     pub fn step(&mut self, alloc: Global, caller: u64, event: Event) -> Answer
-        ensures answered { (s : Start) (es : List Entry) → StandsFor s self.old es →
+        requires { MayAsk self.old event }
+        ensures answered { (s : Start) (es : List Entry) → StandsFor s self.old es → MayStand es event →
             IsAnswered (run (start_world s) es)
-            (record { caller = caller; event = event; reply = result }) }
-        ensures stands { (s : Start) (es : List Entry) → StandsFor s self.old es →
+            (record { caller = caller; event = event; reply = reply_of result }) }
+        ensures stands { (s : Start) (es : List Entry) → StandsFor s self.old es → MayStand es event →
             StandsFor s self.new
-            (es ++ record { caller = caller; event = event; reply = result } ∷ []) }
+            (es ++ record { caller = caller; event = event; reply = reply_of result } ∷ []) }
+        // A piece that found no memory comes back.
+        ensures hands_back { HandsBack event result }
         // A version is answered to a read alone, and is of the kind that the read named; a number to a search alone.
-        ensures fits { IsReplyTo event result }
+        ensures fits { IsReplyTo event (reply_of result) }
     {
         match event {
             Event::Begin => self.state.begin(alloc, caller),
@@ -101,6 +112,9 @@ impl Core {
             Event::Commit => self.state.commit(caller),
             Event::Abort => self.state.abort(caller),
             Event::Mark => self.state.mark(caller),
+            Event::Lift(x) => self.state.lift(alloc, caller, x),
+            Event::Install(piece) => self.state.install(caller, piece),
+            Event::Stats => self.state.stats(caller),
         }
     }
 }

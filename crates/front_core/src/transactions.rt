@@ -1,7 +1,7 @@
-ghost use Rattle.std.specs.Prelude.{◌≡◌, ◌≤◌, ◌<◌, ◌∷◌, ◌⊎◌, [], ℕ, List, Some, None, Err, IfErr, IfOk, IfSome, OnOk, OnErr, length, slice_get, not};
+ghost use Rattle.std.specs.Prelude.{◌≡◌, ◌≤◌, ◌<◌, ◌+◌, ◌∷◌, ◌⊎◌, [], ℕ, List, Some, None, Err, IfErr, IfOk, IfSome, OnOk, OnErr, length, slice_get, not};
 ghost use Rattle.graph_value.specs.declared.id.Oid.{Oid as AnyOid};
 ghost use Rattle.txn_manager.specs.Transactions.{begin_refusal, clock_after_end, mark_of, IsReady};
-ghost use Rattle.front_core.specs.Books.{Book, Closed, Noted, end_number, find_txn, is_empty, opened, place_in, times_of};
+ghost use Rattle.front_core.specs.Books.{Book, Closed, Counted, MOST_DELTAS, Noted, end_number, find_txn, is_empty, opened, place_in, times_of};
 
 use crate::NoMemory;
 use graph_value::Oid;
@@ -10,11 +10,12 @@ use std::alloc::Global;
 use std::marker::Model;
 use txn_manager::{Active, BeginRefused, CLOCK_END};
 
-/// An open transaction, and the objects that it has written, each once.
+/// An open transaction, how many deltas its writes left, and the objects that it has written, each once.
 #[derive(Debug, Drop)]
 pub(crate) struct Transaction {
     pub caller: u64,
     pub start: u64,
+    pub deltas: u64,
     pub written: Items<Oid>,
 }
 
@@ -69,6 +70,7 @@ impl Transactions {
         self.txns.push_reserved(Transaction {
             caller,
             start,
+            deltas: 0,
             written: Items::new(alloc),
         });
         Ok(start)
@@ -107,30 +109,40 @@ impl Transactions {
         let _ = self.txns[place].written.pop();
     }
 
+    /// Counts deltas that a write of the caller's transaction left.
+    pub fn count(&mut self, caller: u64, place: usize, deltas: u64)
+        requires placed { place_in self.old.txns caller ≡ Some place }
+        requires room { IfSome (find_txn self.old.txns caller) (λ t.
+            t.deltas + deltas ≤ MOST_DELTAS) }
+        ensures { Counted self.old self.new caller deltas }
+    {
+        self.txns[place].deltas += deltas;
+    }
+
     /// Ends the caller's transaction: gives its number, which is the clock where it has written, which then rises by
-    /// one, and its start else; and what it has written.
-    pub fn finish(&mut self, caller: u64, place: usize) -> (u64, Items<Oid>)
+    /// one, and its start else; and the transaction.
+    pub fn finish(&mut self, caller: u64, place: usize) -> (u64, Transaction)
         requires { place_in self.old.txns caller ≡ Some place }
         ensures number { IfSome (find_txn self.old.txns caller) (λ t.
             result.0 ≡ end_number self.old.clock t) }
-        ensures written { IfSome (find_txn self.old.txns caller) (λ t. result.1 ≡ t.written) }
+        ensures taken { IfSome (find_txn self.old.txns caller) (λ t. result.1 ≡ t) }
         ensures closed { Closed self.old self.new caller
-            (clock_after_end (not (is_empty result.1)) self.old.clock) }
+            (clock_after_end (not (is_empty result.1.written)) self.old.clock) }
     {
-        let Transaction { written, .. } = self.txns.remove(place);
-        let number = self.active.finish(caller, !written.is_empty());
-        (number, written)
+        let ended = self.txns.remove(place);
+        let number = self.active.finish(caller, !ended.written.is_empty());
+        (number, ended)
     }
 
-    /// Drops the caller's transaction, and gives what it has written.
-    pub fn give_up(&mut self, caller: u64, place: usize) -> Items<Oid>
+    /// Drops the caller's transaction, and gives it.
+    pub fn give_up(&mut self, caller: u64, place: usize) -> Transaction
         requires { place_in self.old.txns caller ≡ Some place }
-        ensures written { IfSome (find_txn self.old.txns caller) (λ t. result ≡ t.written) }
+        ensures taken { IfSome (find_txn self.old.txns caller) (λ t. result ≡ t) }
         ensures closed { Closed self.old self.new caller self.old.clock }
     {
-        let Transaction { written, .. } = self.txns.remove(place);
+        let ended = self.txns.remove(place);
         self.active.give_up(caller);
-        written
+        ended
     }
 
     /// The least start of the open transactions, or the clock where none is open.

@@ -15,17 +15,18 @@ ghost use Rattle.world_model.specs.Op.{changes};
 ghost use Rattle.world_model.specs.Refusals.{conflict, has_edges, id_end, missing, write_refusal};
 ghost use Rattle.world_model.specs.Step.{refused, step, written_world};
 ghost use Rattle.world_model.specs.World.{World, Txn, rival_at, view_of};
+ghost use Rattle.world_model.specs.Reply.{reply_of};
 ghost use Rattle.front_core.specs.Books.{Noted, place_in};
 ghost use Rattle.front_core.specs.Keeps.{Keeps, KeepsSome, Obeys, ObeysAll};
 ghost use Rattle.front_core.specs.Objects.{Has, Rewritten, Unmoved, row_at, unwritten};
 ghost use Rattle.front_core.specs.Opened.{Allowed, Asked, IsAsked, IsReady, MayWrite, Opened};
 
 use crate::NoMemory;
-use crate::effects::{has_label, has_value, is_without_edges, named, wrote};
+use crate::effects::{deltas_left, has_label, has_value, is_without_edges, named, wrote};
 use crate::state::State;
 use graph_record::Object;
 use graph_value::{EdgeId, Name, Oid, Value, VertexId};
-use std::alloc::Global;
+use std::alloc::{AllocError, Global};
 use txn_manager::Rival;
 use undo_delta::{Ask, Op, is_kept_value};
 use world_model::{Answer, Event, ID_END, Refused, When, Wrote};
@@ -35,7 +36,7 @@ impl State {
     pub fn write(&mut self, alloc: Global, caller: u64, ask: Ask) -> Answer
         requires { KeepsSome self.old }
         ensures { ObeysAll self.old self.new
-            (record { caller = caller; event = Event.Write ask; reply = result }) }
+            (record { caller = caller; event = Event.Write ask; reply = reply_of result }) }
     {
         match self.ready(caller, &ask) {
             Ok((place, start)) => {
@@ -111,7 +112,7 @@ impl State {
         requires opened { IsAsked self.old caller start op.now }
         ensures { (w : World) (p : Txn) (ask : AnyAsk) → Opened self.old w caller start p →
             Asked w p ask op.now → Obeys w self.new
-            (record { caller = caller; event = Event.Write ask; reply = result }) }
+            (record { caller = caller; event = Event.Write ask; reply = reply_of result }) }
     {
         if let Some(why) = self.refusal(caller, start, op) {
             return Answer::Refused(why);
@@ -235,7 +236,8 @@ impl State {
         }
     }
 
-    /// Does a write that is allowed and changes something. Without memory the same world is kept.
+    /// Does a write that is allowed and changes something. Without memory, or where the deltas couldn't be counted any
+    /// more, the same world is kept.
     fn perform(
         &mut self,
         alloc: Global,
@@ -252,12 +254,23 @@ impl State {
             Keeps self.new (written_world w caller ask op.now)) }
         ensures err { OnErr result ((w : World) → Keeps self.old w → Keeps self.new w) }
     {
+        let deltas = deltas_left(op);
+        let Some(all) = self.tally.all.checked_add(deltas) else {
+            return Err(AllocError);
+        };
+        self.histories.make(alloc, op)?;
         self.objects.make(alloc, op)?;
-        let done = self.write_noted(alloc, caller, start, place, op, 0);
-        if done.is_err() {
-            self.objects.unmake(op);
+        match self.write_noted(alloc, caller, start, place, op, 0) {
+            Ok(()) => {
+                self.transactions.count(caller, place, deltas);
+                self.tally.all = all;
+                Ok(())
+            }
+            Err(refused) => {
+                self.objects.unmake(op);
+                Err(refused)
+            }
         }
-        done
     }
 
     /// Notes each object that the write touches, from the i-th on, as written by the caller's transaction, if it isn't
@@ -282,6 +295,8 @@ impl State {
         ensures rows_stay { OnErr result (Unmoved self.old.objects self.new.objects) }
         ensures book_stays { OnErr result (Noted self.old.transactions self.new.transactions
             caller []) }
+        ensures histories_stay { self.new.histories ≡ self.old.histories }
+        ensures tally_stays { self.new.tally ≡ self.old.tally }
     {
         let Some(x) = op.touched(i) else {
             return self.objects.write(alloc, caller, start, op);

@@ -1,6 +1,6 @@
 use Rattle.std.proofs.Common.{◌≡◌, sym, ap, refl, ◌∙◌}
 use Rattle.txn_manager.specs.Transactions.{Transactions, mark_of}
-use Rattle.world_model.specs.declared.answer.Answer.TheVariants as answer
+use Rattle.world_model.specs.Reply as answer
 use Rattle.world_model.specs.declared.event.Event.TheVariants.{Mark}
 use Rattle.front_core.proofs.Stepping.{obeys_step}
 use Rattle.front_core.proofs.state.State.mark.Goals as goal

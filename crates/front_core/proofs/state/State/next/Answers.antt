@@ -1,5 +1,5 @@
 use Rattle.std.proofs.Common.{◌≡◌, Some, None, sym, ap, ◌∙◌, refl}
-use Rattle.world_model.specs.declared.answer.Answer.TheVariants as answer
+use Rattle.world_model.specs.Reply as answer
 use Rattle.world_model.specs.declared.answer.Refused.TheVariants.{NoTxn}
 use Rattle.world_model.specs.declared.event.Event.TheVariants.{Next}
 use Rattle.world_model.specs.Step.{next_step, seen_step}

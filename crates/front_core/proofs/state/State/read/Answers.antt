@@ -1,6 +1,6 @@
 use Rattle.std.proofs.Common.{◌≡◌, Some, None, sym, ap, not, ◌∙◌, refl}
 use Rattle.graph_record.specs.Graph.{object_at}
-use Rattle.world_model.specs.declared.answer.Answer.TheVariants as answer
+use Rattle.world_model.specs.Reply as answer
 use Rattle.world_model.specs.declared.answer.Refused.TheVariants.{NoTxn}
 use Rattle.world_model.specs.declared.event.Event.TheVariants.{Read}
 use Rattle.world_model.specs.History.{is_refused}

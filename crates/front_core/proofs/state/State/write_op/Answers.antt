@@ -1,6 +1,6 @@
 use Rattle.std.proofs.Common.{◌≡◌, Some, None, true, false, not, sym, ap, subst, refl, ◌∙◌, arith}
 use Rattle.undo_delta.specs.declared.op.Op.{Op}
-use Rattle.world_model.specs.declared.answer.Answer.TheVariants as answer
+use Rattle.world_model.specs.Reply as answer
 use Rattle.world_model.specs.declared.answer.Wrote.TheVariants as wrote
 use Rattle.world_model.specs.declared.event.Event.TheVariants.{Write}
 use Rattle.world_model.specs.Asked.{op_of}

@@ -28,14 +28,14 @@ apart c = subst (λ (rs : List Running). AllPairs (λ t u. t.caller ≢ u.caller
 pub invariant_of-self : goal.invariant_of-self
 invariant_of-self c = record {
   running = c.finish-number.ensures.others ∙ ap (without c.args.caller) c.self.invariant.running
-      ∙ sym (ap (map running_of) c.remove-written.ensures.items ∙ removed_running (book c).txns c.args.caller c.args.place (placed c) (apart c));
+      ∙ sym (ap (map running_of) c.remove-ended.ensures.items ∙ removed_running (book c).txns c.args.caller c.args.place (placed c) (apart c));
   ready = c.finish-number.ensures.ready;
 }
 
-pub returns-clause-written : goal.returns-clause-written
-returns-clause-written c =
-    subst (λ (b : Book). IfSome (find_txn b.txns c.args.caller) (λ t. c.remove-written.result.written ≡ t.written)) c.self.view_is
-    (of_found (λ (t : Transaction). c.remove-written.result.written ≡ t.written) (book c) c.args.caller c.args.place c.remove-written.result (placed c) c.remove-written.ensures.value refl)
+pub returns-clause-taken : goal.returns-clause-taken
+returns-clause-taken c =
+    subst (λ (b : Book). IfSome (find_txn b.txns c.args.caller) (λ t. c.remove-ended.result ≡ t)) c.self.view_is
+    (of_found (λ (t : Transaction). c.remove-ended.result ≡ t) (book c) c.args.caller c.args.place c.remove-ended.result (placed c) c.remove-ended.ensures.value refl)
 
 -- whether a list is empty, as the code and the definition tell it
 empty_is : (b : Bool) (xs : List Oid) → IsTrue b ↔ (xs ≡ []) → b ≡ is_empty xs
@@ -48,24 +48,24 @@ empty_is true (x ∷ xs) tells = absurd (not_nil (tells.0 refl))
 empty_is false (x ∷ xs) tells = refl
 
 abbrev now : After-finish-number → ℕ
-now c = clock_after_end (not (is_empty c.remove-written.result.written)) c.self.inside.active.clock
+now c = clock_after_end (not (is_empty c.remove-ended.result.written)) c.self.inside.active.clock
 
 pub returns-clause-closed : goal.returns-clause-closed
 returns-clause-closed c =
-    subst (λ (b : Book). Closed b (record { clock = c.finish-number.new.self.clock; txns = c.remove-written.new.self.items }) c.args.caller (clock_after_end (not (is_empty c.remove-written.result.written)) b.clock)) c.self.view_is
-    (closed (book c) (record { clock = c.finish-number.new.self.clock; txns = c.remove-written.new.self.items }) c.args.caller c.args.place (now c) (placed c) (apart c)
-    (ap (λ n. record { clock = n; txns = c.remove-written.new.self.items }) (c.finish-number.ensures.clock ∙ ap (λ b. clock_after_end (not b) c.self.inside.active.clock) (empty_is c.is_empty.result c.remove-written.result.written c.is_empty.ensures))
-    ∙ ap (λ ts. record { clock = now c; txns = ts }) c.remove-written.ensures.items))
+    subst (λ (b : Book). Closed b (record { clock = c.finish-number.new.self.clock; txns = c.remove-ended.new.self.items }) c.args.caller (clock_after_end (not (is_empty c.remove-ended.result.written)) b.clock)) c.self.view_is
+    (closed (book c) (record { clock = c.finish-number.new.self.clock; txns = c.remove-ended.new.self.items }) c.args.caller c.args.place (now c) (placed c) (apart c)
+    (ap (λ n. record { clock = n; txns = c.remove-ended.new.self.items }) (c.finish-number.ensures.clock ∙ ap (λ b. clock_after_end (not b) c.self.inside.active.clock) (empty_is c.is_empty.result c.remove-ended.result.written c.is_empty.ensures))
+    ∙ ap (λ ts. record { clock = now c; txns = ts }) c.remove-ended.ensures.items))
 
 pub returns-clause-number : goal.returns-clause-number
 returns-clause-number c =
     subst (λ (b : Book). IfSome (find_txn b.txns c.args.caller) (λ t. c.finish-number.result ≡ end_number b.clock t)) c.self.view_is
-    (of_found (λ (t : Transaction). c.finish-number.result ≡ end_number c.self.inside.active.clock t) (book c) c.args.caller c.args.place c.remove-written.result (placed c) c.remove-written.ensures.value
-    (by_list c.is_empty.result (empty_is c.is_empty.result c.remove-written.result.written c.is_empty.ensures) c.finish-number.ensures.written c.finish-number.ensures.read))
+    (of_found (λ (t : Transaction). c.finish-number.result ≡ end_number c.self.inside.active.clock t) (book c) c.args.caller c.args.place c.remove-ended.result (placed c) c.remove-ended.ensures.value
+    (by_list c.is_empty.result (empty_is c.is_empty.result c.remove-ended.result.written c.is_empty.ensures) c.finish-number.ensures.written c.finish-number.ensures.read))
   where
-    by_list : (b : Bool) → b ≡ is_empty c.remove-written.result.written → (IsTrue (not b) → c.finish-number.result ≡ c.self.inside.active.clock) → (IsFalse (not b) → start_of c.self.inside.active.running c.args.caller ≡ Some c.finish-number.result) →
-        c.finish-number.result ≡ cond (is_empty c.remove-written.result.written) c.remove-written.result.start c.self.inside.active.clock
+    by_list : (b : Bool) → b ≡ is_empty c.remove-ended.result.written → (IsTrue (not b) → c.finish-number.result ≡ c.self.inside.active.clock) → (IsFalse (not b) → start_of c.self.inside.active.running c.args.caller ≡ Some c.finish-number.result) →
+        c.finish-number.result ≡ cond (is_empty c.remove-ended.result.written) c.remove-ended.result.start c.self.inside.active.clock
     by_list true is wrote read =
-        start_is (book c) c.self.inside.active.running c.args.caller c.args.place c.finish-number.result c.remove-written.result (placed c) c.self.invariant.running c.remove-written.ensures.value (read refl)
-        ∙ ap (λ b. cond b c.remove-written.result.start c.self.inside.active.clock) is
-    by_list false is wrote read = wrote refl ∙ ap (λ b. cond b c.remove-written.result.start c.self.inside.active.clock) is
+        start_is (book c) c.self.inside.active.running c.args.caller c.args.place c.finish-number.result c.remove-ended.result (placed c) c.self.invariant.running c.remove-ended.ensures.value (read refl)
+        ∙ ap (λ b. cond b c.remove-ended.result.start c.self.inside.active.clock) is
+    by_list false is wrote read = wrote refl ∙ ap (λ b. cond b c.remove-ended.result.start c.self.inside.active.clock) is

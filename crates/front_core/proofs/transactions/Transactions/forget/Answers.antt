@@ -35,4 +35,4 @@ returns c = λ before x noted_x.
     let noted_here : Noted before (book c) c.args.caller (x ∷ []) = subst (λ (b : Book). Noted before b c.args.caller (x ∷ [])) (sym c.self.view_is) noted_x in
     forgot before (book c) _ c.args.caller c.args.place e x c.pop.new.self (placed c) noted_here
     (λ older last was. shorter _ _ c.pop.result c.pop.ensures older last (ap (λ (t : Transaction). t.written) c.index_mut.ensures.value ∙ was))
-    (ap (λ (t : Transaction). record { clock = c.self.inside.active.clock; txns = set c.self.inside.txns.items c.args.place (record { caller = t.caller; start = t.start; written = c.pop.new.self }) }) c.index_mut.ensures.value)
+    (ap (λ (t : Transaction). record { clock = c.self.inside.active.clock; txns = set c.self.inside.txns.items c.args.place (record { caller = t.caller; start = t.start; deltas = t.deltas; written = c.pop.new.self }) }) c.index_mut.ensures.value)

@@ -28,17 +28,17 @@ apart c = subst (λ (rs : List Running). AllPairs (λ t u. t.caller ≢ u.caller
 pub invariant_of-self : goal.invariant_of-self
 invariant_of-self c = record {
   running = c.give_up.ensures.others ∙ ap (without c.args.caller) c.self.invariant.running
-      ∙ sym (ap (map running_of) c.remove-written.ensures.items ∙ removed_running (book c).txns c.args.caller c.args.place (placed c) (apart c));
+      ∙ sym (ap (map running_of) c.remove-ended.ensures.items ∙ removed_running (book c).txns c.args.caller c.args.place (placed c) (apart c));
   ready = c.give_up.ensures.ready;
 }
 
-pub returns-clause-written : goal.returns-clause-written
-returns-clause-written c =
-    subst (λ (b : Book). IfSome (find_txn b.txns c.args.caller) (λ t. c.remove-written.result.written ≡ t.written)) c.self.view_is
-    (of_found (λ (t : Transaction). c.remove-written.result.written ≡ t.written) (book c) c.args.caller c.args.place c.remove-written.result (placed c) c.remove-written.ensures.value refl)
+pub returns-clause-taken : goal.returns-clause-taken
+returns-clause-taken c =
+    subst (λ (b : Book). IfSome (find_txn b.txns c.args.caller) (λ t. c.remove-ended.result ≡ t)) c.self.view_is
+    (of_found (λ (t : Transaction). c.remove-ended.result ≡ t) (book c) c.args.caller c.args.place c.remove-ended.result (placed c) c.remove-ended.ensures.value refl)
 
 pub returns-clause-closed : goal.returns-clause-closed
 returns-clause-closed c =
-    subst (λ (b : Book). Closed b (record { clock = c.give_up.new.self.clock; txns = c.remove-written.new.self.items }) c.args.caller b.clock) c.self.view_is
-    (closed (book c) (record { clock = c.give_up.new.self.clock; txns = c.remove-written.new.self.items }) c.args.caller c.args.place c.self.inside.active.clock (placed c) (apart c)
-    (ap (λ n. record { clock = n; txns = c.remove-written.new.self.items }) c.give_up.ensures.clock ∙ ap (λ ts. record { clock = c.self.inside.active.clock; txns = ts }) c.remove-written.ensures.items))
+    subst (λ (b : Book). Closed b (record { clock = c.give_up.new.self.clock; txns = c.remove-ended.new.self.items }) c.args.caller b.clock) c.self.view_is
+    (closed (book c) (record { clock = c.give_up.new.self.clock; txns = c.remove-ended.new.self.items }) c.args.caller c.args.place c.self.inside.active.clock (placed c) (apart c)
+    (ap (λ n. record { clock = n; txns = c.remove-ended.new.self.items }) c.give_up.ensures.clock ∙ ap (λ ts. record { clock = c.self.inside.active.clock; txns = ts }) c.remove-ended.ensures.items))

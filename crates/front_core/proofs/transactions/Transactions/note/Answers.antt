@@ -20,12 +20,12 @@ invariant_of-self c = record {
 }
 
 abbrev after : After-self-1 → Book
-after c = record { clock = c.self.inside.active.clock; txns = set c.self.inside.txns.items c.args.place (record { caller = c.index_mut.result.now.caller; start = c.index_mut.result.now.start; written = c.push.new.self }) }
+after c = record { clock = c.self.inside.active.clock; txns = set c.self.inside.txns.items c.args.place (record { caller = c.index_mut.result.now.caller; start = c.index_mut.result.now.start; deltas = c.index_mut.result.now.deltas; written = c.push.new.self }) }
 
 pub returns-clause-ok : goal.returns-clause-ok
 returns-clause-ok c = on_ok_weaker c.push.result (λ written.
     subst (λ (b : Book). Noted b (after c) c.args.caller (c.args.x ∷ [])) c.self.view_is
     (noted (book c) (after c) c.args.caller c.args.place c.index_mut.result.now (c.args.x ∷ []) (placed c)
-    (ap (λ w. record { clock = c.self.inside.active.clock; txns = set c.self.inside.txns.items c.args.place (record { caller = c.index_mut.result.now.caller; start = c.index_mut.result.now.start; written = w }) }) written
+    (ap (λ w. record { clock = c.self.inside.active.clock; txns = set c.self.inside.txns.items c.args.place (record { caller = c.index_mut.result.now.caller; start = c.index_mut.result.now.start; deltas = c.index_mut.result.now.deltas; written = w }) }) written
     ∙ ap (λ (t : Transaction). record { clock = c.self.inside.active.clock; txns = set c.self.inside.txns.items c.args.place (with_written (c.args.x ∷ []) t) }) c.index_mut.ensures.value)))
     c.push.ensures.ok
