@@ -52,19 +52,19 @@ is_limit SinkFault status = absurd (omega (arith, status))
 is_limit NoMemory status = absurd (omega (arith, status))
 
 -- what is known of a run at its ending
-pub record Ends {I O : Type 0} (g : source.Ghosts I) (h : sink.Ghosts O) (input input' : I) (output output' : O) (ending : Ending) : Type 0 where
+pub record Ends {I O : Type 0} (anchor : ℕ) (g : source.Ghosts I) (h : sink.Ghosts O) (input input' : I) (output output' : O) (ending : Ending) : Type 0 where
   pub same_input : SameInput g input input'
-  pub done : ending ≡ Done → WhereLeft g input input' (λ left left'. WhereTaken h output output' (AnswersAll left left'))
+  pub done : ending ≡ Done → WhereLeft g input input' (λ left left'. WhereTaken h output output' (AnswersAll anchor left left'))
   pub source : ending ≡ SourceFault → SourceRose g input input'
-  pub ended : ending ≡ SourceFault → WhereLeft g input input' (λ left left'. WhereTaken h output output' (AnswersRead left left'))
+  pub ended : ending ≡ SourceFault → WhereLeft g input input' (λ left left'. WhereTaken h output output' (AnswersRead anchor left left'))
   pub sink : ending ≡ SinkFault → SinkRose h output output'
   pub limit : WhereLeft g input input' (λ left left'. IsEndingAfter ending (length left - length left'))
-  pub within : ending ≡ Limit → WhereLeft g input input' (λ left left'. WhereTaken h output output' (AnswersWithin left))
-  pub front : WhereLeft g input input' (λ left left'. WhereTaken h output output' (WritesFront left))
+  pub within : ending ≡ Limit → WhereLeft g input input' (λ left left'. WhereTaken h output output' (AnswersWithin anchor left))
+  pub front : WhereLeft g input input' (λ left left'. WhereTaken h output output' (WritesFront anchor left))
 
-pub run_ends : {I O : Type 0} (g : source.Ghosts I) (h : sink.Ghosts O) (input input' : I) (output output' : O) (ending : Ending)
-    → Ends g h input input' output output' ending → Run g h input input' output output' (status_of ending)
-run_ends g h input input' output output' ending ends = record {
+pub run_ends : {I O : Type 0} (anchor : ℕ) (g : source.Ghosts I) (h : sink.Ghosts O) (input input' : I) (output output' : O) (ending : Ending)
+    → Ends anchor g h input input' output output' ending → Run anchor g h input input' output output' (status_of ending)
+run_ends anchor g h input input' output output' ending ends = record {
   statuses = is_status ending;
   same_input = ends.same_input;
   done = λ status. ends.done (is_done ending status);

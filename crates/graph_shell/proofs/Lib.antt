@@ -10,6 +10,7 @@ mod Names
 mod Numbers
 mod Options
 mod Pieces
+mod Places
 mod Pushed
 mod Read
 mod ReadWords

@@ -4,7 +4,7 @@ use Rattle.std.specs.Str.{bytes_eq}
 use Rattle.world_model.specs.declared.event.Event.TheVariants.{Next, Read}
 use Rattle.world_model.specs.declared.event.Kind.{Kind}
 use Rattle.graph_shell.specs.Words.{number_below, oid_of}
-use Rattle.graph_shell.specs.Request.{when_of, read_event, kind_of, next_after, next_of, next_event, delete_event, label_event, unlabel_event, edge_event, worded_event, words_event}
+use Rattle.graph_shell.specs.Request.{when_of, read_event, kind_of, next_after, next_of, next_event, delete_event, label_event, unlabel_event, edge_event, lift_event, worded_event, words_event}
 
 nothing_follows : {A B : Type 0} (o : Option A) (none : A → Option B) → ((x : A) → none x ≡ None) → option_and_then none o ≡ None
 nothing_follows (Some x) none is = is x
@@ -50,17 +50,24 @@ write_none (a ∷ b ∷ []) more = absurd (omega (arith, more))
 write_none (a ∷ b ∷ c ∷ []) more = absurd (omega (arith, more))
 write_none (a ∷ b ∷ c ∷ d ∷ rest) more = (refl, refl, refl, refl)
 
+lift_none : (words : List (List ℕ)) → 5 < length words → lift_event words ≡ None
+unfolding lift_event
+lift_none [] more = absurd (omega (arith, more))
+lift_none (a ∷ []) more = absurd (omega (arith, more))
+lift_none (a ∷ b ∷ rest) more = refl
+
 worded_none : (verb : List ℕ) (words : List (List ℕ)) → 5 < length words → worded_event verb words ≡ None
 unfolding worded_event
 worded_none verb words more =
     let writes = write_none words more in
-    rw (read_none words more, next_none words more, writes.0, writes.1, writes.2, writes.3)
+    rw (read_none words more, next_none words more, writes.0, writes.1, writes.2, writes.3, lift_none words more)
     (neither (bytes_eq verb (codes "read")) None _ refl
     (neither (bytes_eq verb (codes "next")) None _ refl
     (neither (bytes_eq verb (codes "delete")) None _ refl
     (neither (bytes_eq verb (codes "label")) None _ refl
     (neither (bytes_eq verb (codes "unlabel")) None _ refl
-    (neither (bytes_eq verb (codes "edge")) None None refl refl))))))
+    (neither (bytes_eq verb (codes "edge")) None _ refl
+    (neither (bytes_eq verb (codes "lift")) None None refl refl)))))))
 
 pub many_words : (words : List (List ℕ)) → 6 < length words → words_event words ≡ None
 unfolding words_event

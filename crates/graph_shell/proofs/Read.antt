@@ -12,13 +12,17 @@ use Rattle.graph_value.specs.declared.id.Oid.TheVariants as oid
 use Rattle.graph_value.specs.declared.value.Value.{Value}
 use Rattle.undo_delta.specs.declared.ask.Ask.TheVariants.{CreateVertex, AddLabel, RemoveLabel, CreateEdge}
 use Rattle.world_model.specs.declared.event.Event.{Event}
-use Rattle.world_model.specs.declared.event.Event.TheVariants.{Begin, Next, Read, Write, Commit, Abort, Mark}
+use Rattle.world_model.specs.declared.event.Event.TheVariants.{Begin, Next, Read, Write, Commit, Abort, Mark, Lift, Install, Stats}
 use Rattle.world_model.specs.declared.event.When.{When}
 use Rattle.world_model.specs.declared.event.Kind.{Kind}
+use Rattle.graph_shell.specs.declared.request.Request.{Request}
+use Rattle.graph_shell.specs.declared.request.Wish.{Wish}
+use Rattle.graph_shell.specs.declared.request.Wish.TheVariants as wish
 use Rattle.graph_shell.specs.Words.{words_of, in_front, cut, number_below, name_of, oid_of, vertex_of}
 use Rattle.graph_shell.specs.Values.{json_value}
-use Rattle.graph_shell.specs.Request.{plain_event, when_of, read_event, kind_of, next_after, next_of, next_event, delete_ask, delete_event, label_event, unlabel_event, edge_event, set_ask, property_event, set_event, worded_event, words_event, parted_event, event_of, request_of}
-use Rattle.graph_shell.specs.Spelling.{line_of, search_words, IsSpelledOid, IsSpelledName, IsSpelledSearch, IsEventLine, IsLineOf, ReadIsSpelling}
+use Rattle.graph_shell.specs.Request.{plain_event, when_of, read_event, kind_of, next_after, next_of, next_event, delete_ask, delete_event, label_event, unlabel_event, edge_event, set_ask, property_event, set_event, lift_event, worded_event, words_event, parted_event, event_of, event_wish, install_wish, parted_wish, wish_of, request_of}
+use Rattle.graph_shell.specs.Spelling.{line_of, search_words, IsSpelledOid, IsSpelledName, IsSpelledSearch, IsEventLine, IsWishLine, IsLineOf, ReadIsSpelling}
+use Rattle.graph_shell.specs.Told.{IsSayable, IsWithoutPiece}
 use Rattle.graph_shell.proofs.Options.{bind_some, map_some, kept, chosen}
 use Rattle.graph_shell.proofs.ReadWords.{same_words, same_text, number_reads, name_reads, oid_reads, vertex_reads, when_reads, kind_reads}
 
@@ -41,8 +45,11 @@ plain_reads verb event h = elim (chosen (bytes_eq verb (codes "begin")) (Some Be
       | inl a ↦ subst (AreWordsOf (verb ∷ [])) (same_Some _ _ a.1) (λ line caller is. (tt, line_by line caller _ _ (ap (λ w. w ∷ []) (same_text verb _ a.0)) is))
       | inr more ↦ elim (chosen (bytes_eq verb (codes "abort")) (Some Abort) _ event more.1) [
         | inl a ↦ subst (AreWordsOf (verb ∷ [])) (same_Some _ _ a.1) (λ line caller is. (tt, line_by line caller _ _ (ap (λ w. w ∷ []) (same_text verb _ a.0)) is))
-        | inr more ↦ (let a = kept (bytes_eq verb (codes "mark")) (Some Mark) event more.1 in
-            subst (AreWordsOf (verb ∷ [])) (same_Some _ _ a.1) (λ line caller is. (tt, line_by line caller _ _ (ap (λ w. w ∷ []) (same_text verb _ a.0)) is)))
+        | inr more ↦ elim (chosen (bytes_eq verb (codes "mark")) (Some Mark) _ event more.1) [
+          | inl a ↦ subst (AreWordsOf (verb ∷ [])) (same_Some _ _ a.1) (λ line caller is. (tt, line_by line caller _ _ (ap (λ w. w ∷ []) (same_text verb _ a.0)) is))
+          | inr more ↦ (let a = kept (bytes_eq verb (codes "stats")) (Some Stats) event more.1 in
+              subst (AreWordsOf (verb ∷ [])) (same_Some _ _ a.1) (λ line caller is. (tt, line_by line caller _ _ (ap (λ w. w ∷ []) (same_text verb _ a.0)) is)))
+        ]
       ]
     ]
   ]
@@ -95,6 +102,15 @@ next_reads verb (word ∷ words) event v h =
     let search = search_reads first.0 words event first.2 in
     let kind = kind_reads word first.0 first.1 in
     subst (AreWordsOf (verb ∷ word ∷ words)) search.4 (λ line caller is. (search.2, line_by line caller _ _ (same_words _ _ _ _ v (same_words _ _ _ _ kind search.3)) is))
+
+lift_reads : (verb : List ℕ) (words : List (List ℕ)) (event : Event) → verb ≡ codes "lift" → lift_event words ≡ Some event → AreWordsOf (verb ∷ words) event
+unfolding lift_event
+lift_reads verb [] event v h = absurd (none-some _ h)
+lift_reads verb (object ∷ []) event v h =
+    let some = map_some (oid_of object) Lift event h in
+    let x = oid_reads object some.0 some.1 in
+    subst (AreWordsOf (verb ∷ object ∷ [])) some.2 (λ line caller is. (x.0, line_by line caller _ _ (same_words _ _ _ _ v (ap (λ w. w ∷ []) x.1)) is))
+lift_reads verb (a ∷ b ∷ words) event v h = absurd (none-some _ h)
 
 -- WRITES
 
@@ -163,7 +179,10 @@ worded_reads verb words event h = elim (chosen (bytes_eq verb (codes "read")) (r
         | inl a ↦ label_reads verb words event (same_text verb _ a.0) a.1
         | inr more ↦ elim (chosen (bytes_eq verb (codes "unlabel")) (unlabel_event words) _ event more.1) [
           | inl a ↦ unlabel_reads verb words event (same_text verb _ a.0) a.1
-          | inr more ↦ (let a = kept (bytes_eq verb (codes "edge")) (edge_event words) event more.1 in edge_reads verb words event (same_text verb _ a.0) a.1)
+          | inr more ↦ elim (chosen (bytes_eq verb (codes "edge")) (edge_event words) _ event more.1) [
+            | inl a ↦ edge_reads verb words event (same_text verb _ a.0) a.1
+            | inr more ↦ (let a = kept (bytes_eq verb (codes "lift")) (lift_event words) event more.1 in lift_reads verb words event (same_text verb _ a.0) a.1)
+          ]
         ]
       ]
     ]
@@ -239,13 +258,51 @@ parted_reads caller text (Some parts) event is h = elim (chosen (bytes_eq parts.
   | inr more ↦ split_reads caller text event more.1
 ]
 
+event_reads : (caller : ℕ) (text : List ℕ) (w : Wish) → event_wish text ≡ Some w → IsWishLine (decimal caller ++ 32 ∷ text) caller w
+event_reads caller text w h =
+    let some = map_some (event_of text) wish.Event w h in
+    subst (IsWishLine (decimal caller ++ 32 ∷ text) caller) some.2 (parted_reads caller text (cut text) some.0 refl some.1)
+
+install_reads : (caller : ℕ) (text behind : List ℕ) (w : Wish) → text ≡ codes "install" ++ 32 ∷ behind → install_wish behind ≡ Some w → IsWishLine (decimal caller ++ 32 ∷ text) caller w
+install_reads caller text behind w is h =
+    let some = map_some (oid_of behind) wish.Install w h in
+    let x = oid_reads behind some.0 some.1 in
+    subst (IsWishLine (decimal caller ++ 32 ∷ text) caller) some.2 (x.0, ap (λ t. decimal caller ++ 32 ∷ t) (is ∙ ap (λ t. codes "install" ++ 32 ∷ t) x.1))
+
+wish_reads : (caller : ℕ) (text : List ℕ) (parts : Option (List ℕ × List ℕ)) (w : Wish) → cut text ≡ parts → parted_wish text parts ≡ Some w → IsWishLine (decimal caller ++ 32 ∷ text) caller w
+wish_reads caller text None w is h = event_reads caller text w h
+wish_reads caller text (Some parts) w is h = elim (chosen (bytes_eq parts.0 (codes "install")) (install_wish parts.1) (event_wish text) w h) [
+  | inl a ↦ install_reads caller text parts.1 w (cut_reads text parts is ∙ ap (λ t. t ++ 32 ∷ parts.1) (same_text parts.0 _ a.0)) a.1
+  | inr more ↦ event_reads caller text w more.1
+]
+
 pub read_is_spelling : ReadIsSpelling
 unfolding request_of
 read_is_spelling line request h =
-    let first = bind_some (cut line) (λ p. option_and_then (λ n. option_and_then (λ event. Some (record { caller = n; event = event })) (event_of p.1)) (number_below (2 ^ 32) p.0)) request h in
-    let second = bind_some (number_below (2 ^ 32) first.0.0) (λ n. option_and_then (λ event. Some (record { caller = n; event = event })) (event_of first.0.1)) request first.2 in
-    let third = bind_some (event_of first.0.1) (λ event. Some (record { caller = second.0; event = event })) request second.2 in
+    let first = bind_some (cut line) (λ p. option_and_then (λ n. option_and_then (λ w. Some (record { caller = n; wish = w })) (wish_of p.1)) (number_below (2 ^ 32) p.0)) request h in
+    let second = bind_some (number_below (2 ^ 32) first.0.0) (λ n. option_and_then (λ w. Some (record { caller = n; wish = w })) (wish_of first.0.1)) request first.2 in
+    let third = bind_some (wish_of first.0.1) (λ w. Some (record { caller = second.0; wish = w })) request second.2 in
     let caller = number_reads (2 ^ 32) first.0.0 second.0 (omega arith) second.1 in
     let whole = cut_reads line first.0 first.1 ∙ ap (λ w. w ++ 32 ∷ first.0.1) caller.1 in
-    let behind = parted_reads second.0 first.0.1 (cut first.0.1) third.0 refl third.1 in
-    subst (IsLineOf line) (same_Some _ _ third.2) (caller.0, subst (λ (l : List ℕ). IsEventLine l second.0 third.0) (sym whole) behind)
+    let behind = wish_reads second.0 first.0.1 (cut first.0.1) third.0 refl third.1 in
+    subst (IsLineOf line) (same_Some _ _ third.2) (caller.0, subst (λ (l : List ℕ). IsWishLine l second.0 third.0) (sym whole) behind)
+
+event_sayable : (line : List ℕ) (caller : ℕ) (event : Event) → IsEventLine line caller event → IsWithoutPiece event
+event_sayable line caller Begin h = tt
+event_sayable line caller (Next kind after when) h = tt
+event_sayable line caller (Read x when) h = tt
+event_sayable line caller (Write ask) h = tt
+event_sayable line caller Commit h = tt
+event_sayable line caller Abort h = tt
+event_sayable line caller Mark h = tt
+event_sayable line caller (Lift x) h = tt
+event_sayable line caller (Install piece) h = absurd h.0
+event_sayable line caller Stats h = tt
+
+wish_sayable : (line : List ℕ) (caller : ℕ) (w : Wish) → IsWishLine line caller w → IsSayable w
+wish_sayable line caller (wish.Event event) h = event_sayable line caller event h
+wish_sayable line caller (wish.Install x) h = tt
+
+-- no line is read as an event that carries a piece
+pub read_is_sayable : (line : List ℕ) (request : Request) → request_of line ≡ Some request → IsSayable request.wish
+read_is_sayable line request h = wish_sayable line request.caller request.wish (read_is_spelling line request h).1

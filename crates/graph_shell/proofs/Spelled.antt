@@ -1,5 +1,5 @@
 -- A request's spelling is read as that request.
-use Rattle.std.proofs.Common.{◌≡◌, ℕ, ◌<◌, ◌^◌, true, List, [], ◌∷◌, ◌++◌, length, Option, Some, None, codes, refl, ap, ◌∙◌, arith}
+use Rattle.std.proofs.Common.{◌≡◌, ℕ, ◌<◌, ◌^◌, true, List, [], ◌∷◌, ◌++◌, length, Option, Some, None, option_map, codes, refl, ap, ◌∙◌, arith}
 use Rattle.std.specs.List.{list_all, join_with_byte}
 use Rattle.std.specs.Fmt.{decimal}
 use Rattle.graph_value.specs.Id.{oid_text}
@@ -9,11 +9,13 @@ use Rattle.graph_value.specs.declared.value.Value.{Value}
 use Rattle.undo_delta.specs.declared.ask.Ask.{Ask}
 use Rattle.undo_delta.specs.declared.ask.Ask.TheVariants.{CreateVertex, DeleteVertex, AddLabel, RemoveLabel, SetVertexProp, CreateEdge, DeleteEdge, SetEdgeProp}
 use Rattle.world_model.specs.declared.event.Event.{Event}
-use Rattle.world_model.specs.declared.event.Event.TheVariants.{Begin, Next, Read, Write, Commit, Abort, Mark}
+use Rattle.world_model.specs.declared.event.Event.TheVariants.{Begin, Next, Read, Write, Commit, Abort, Mark, Lift, Install, Stats}
 use Rattle.world_model.specs.declared.event.When.{When}
 use Rattle.world_model.specs.declared.event.Kind.{Kind}
-use Rattle.graph_shell.specs.Request.{plain_event, read_event, next_after, next_of, next_event, delete_event, label_event, unlabel_event, edge_event, set_ask, property_event, set_event, worded_event, words_event, event_of, request_of}
-use Rattle.graph_shell.specs.Spelling.{when_words, kind_word, search_words, set_words, value_text, event_words, IsSpelledOid, IsSpelledName, IsSpelledWhen, IsSpelledSearch, IsSpelledValue, IsSpelledAsk, IsSpelledEvent, SpellingIsRead}
+use Rattle.graph_shell.specs.declared.request.Wish.{Wish}
+use Rattle.graph_shell.specs.declared.request.Wish.TheVariants as wish
+use Rattle.graph_shell.specs.Request.{plain_event, read_event, next_after, next_of, next_event, delete_event, label_event, unlabel_event, edge_event, set_ask, property_event, set_event, lift_event, worded_event, words_event, event_of, event_wish, wish_of, request_of}
+use Rattle.graph_shell.specs.Spelling.{when_words, kind_word, search_words, set_words, value_text, event_words, wish_words, IsSpelledOid, IsSpelledName, IsSpelledWhen, IsSpelledSearch, IsSpelledValue, IsSpelledAsk, IsSpelledEvent, IsSpelledWish, SpellingIsRead}
 use Rattle.graph_shell.proofs.WordsAgain.{no_space, words_again, cut_word, decimal_no_space, number_again, name_no_space, name_again, oid_again, oid_no_space, vertex_again, vertex_no_space, when_again, when_no_space, kind_again, kind_no_space}
 use Rattle.graph_shell.proofs.JsonAgain.{value_again}
 
@@ -75,6 +77,12 @@ ask_again (SetEdgeProp id name value) h = set_again (oid.Edge id) name value h.0
 
 -- EVENTS
 
+lift_again : (x : Oid) → IsSpelledOid x → event_of (text_of (Lift x)) ≡ Some (Lift x)
+unfolding words_event worded_event lift_event
+lift_again x h =
+    let apart : list_all no_space (oid_text x ∷ []) ≡ true = rw (oid_no_space x h) refl in
+    ap words_event (words_again (codes "lift") (oid_text x ∷ []) refl apart) ∙ rw (oid_again x h) refl
+
 event_again : (event : Event) → IsSpelledEvent event → event_of (text_of event) ≡ Some event
 unfolding words_event plain_event
 event_again Begin h = refl
@@ -84,22 +92,60 @@ event_again (Write ask) h = ask_again ask h
 event_again Commit h = refl
 event_again Abort h = refl
 event_again Mark h = refl
+event_again (Lift x) h = lift_again x h
+event_again (Install piece) h = absurd h
+event_again Stats h = refl
 
-some_words : (event : Event) → 0 < length (event_words event)
-some_words Begin = omega arith
-some_words (Next kind after when) = omega arith
-some_words (Read x when) = omega arith
-some_words (Write CreateVertex) = omega arith
-some_words (Write (DeleteVertex id)) = omega arith
-some_words (Write (AddLabel id name)) = omega arith
-some_words (Write (RemoveLabel id name)) = omega arith
-some_words (Write (SetVertexProp id name value)) = omega arith
-some_words (Write (CreateEdge from kind to)) = omega arith
-some_words (Write (DeleteEdge id)) = omega arith
-some_words (Write (SetEdgeProp id name value)) = omega arith
-some_words Commit = omega arith
-some_words Abort = omega arith
-some_words Mark = omega arith
+-- no event begins as an installation
+no_install : (event : Event) → IsSpelledEvent event → wish_of (text_of event) ≡ event_wish (text_of event)
+no_install Begin h = refl
+no_install (Next kind after when) h = refl
+no_install (Read x when) h = refl
+no_install (Write CreateVertex) h = refl
+no_install (Write (DeleteVertex id)) h = refl
+no_install (Write (AddLabel id name)) h = refl
+no_install (Write (RemoveLabel id name)) h = refl
+no_install (Write (SetVertexProp id name value)) h = refl
+no_install (Write (CreateEdge from kind to)) h = refl
+no_install (Write (DeleteEdge id)) h = refl
+no_install (Write (SetEdgeProp id name value)) h = refl
+no_install Commit h = refl
+no_install Abort h = refl
+no_install Mark h = refl
+no_install (Lift x) h = refl
+no_install (Install piece) h = absurd h
+no_install Stats h = refl
+
+-- the text behind the caller
+abbrev wish_text : Wish → List ℕ
+wish_text w = join_with_byte 32 (wish_words w)
+
+wish_again : (w : Wish) → IsSpelledWish w → wish_of (wish_text w) ≡ Some w
+wish_again (wish.Event event) h = no_install event h ∙ ap (λ (e : Option Event). option_map wish.Event e) (event_again event h)
+wish_again (wish.Install x) h = rw (oid_again x h) refl
+
+some_words : (event : Event) → IsSpelledEvent event → 0 < length (event_words event)
+some_words Begin h = omega arith
+some_words (Next kind after when) h = omega arith
+some_words (Read x when) h = omega arith
+some_words (Write CreateVertex) h = omega arith
+some_words (Write (DeleteVertex id)) h = omega arith
+some_words (Write (AddLabel id name)) h = omega arith
+some_words (Write (RemoveLabel id name)) h = omega arith
+some_words (Write (SetVertexProp id name value)) h = omega arith
+some_words (Write (CreateEdge from kind to)) h = omega arith
+some_words (Write (DeleteEdge id)) h = omega arith
+some_words (Write (SetEdgeProp id name value)) h = omega arith
+some_words Commit h = omega arith
+some_words Abort h = omega arith
+some_words Mark h = omega arith
+some_words (Lift x) h = omega arith
+some_words (Install piece) h = absurd h
+some_words Stats h = omega arith
+
+some_wish_words : (w : Wish) → IsSpelledWish w → 0 < length (wish_words w)
+some_wish_words (wish.Event event) h = some_words event h
+some_wish_words (wish.Install x) h = omega arith
 
 joined : (word : List ℕ) (words : List (List ℕ)) → 0 < length words → join_with_byte 32 (word ∷ words) ≡ word ++ 32 ∷ join_with_byte 32 words
 joined word [] some = absurd (omega (arith, some))
@@ -108,5 +154,5 @@ joined word (first ∷ words) some = refl
 pub spelling_is_read : SpellingIsRead
 unfolding request_of
 spelling_is_read request h =
-    let line = joined (decimal request.caller) (event_words request.event) (some_words request.event) in
-    rw (line, cut_word (decimal request.caller) (text_of request.event) (decimal_no_space request.caller (omega (arith, h.0))), number_again (2 ^ 32) request.caller h.0 (omega arith), event_again request.event h.1) refl
+    let line = joined (decimal request.caller) (wish_words request.wish) (some_wish_words request.wish h.1) in
+    rw (line, cut_word (decimal request.caller) (wish_text request.wish) (decimal_no_space request.caller (omega (arith, h.0))), number_again (2 ^ 32) request.caller h.0 (omega arith), wish_again request.wish h.1) refl

@@ -2,15 +2,13 @@
 use Rattle.std.proofs.Common.{◌≡◌, ◌≢◌, ◌≤◌, ◌<◌, ℕ, List, [], true, false, cond, length, nat_lt, sym, ap, subst, ◌∙◌, arith}
 use Rattle.std.proofs.lemmas.Bool.Decides.{nat_tests}
 use Rattle.std.specs.Prelude.{slice_range}
-use Rattle.world_model.specs.World.{World, start_world}
-use Rattle.world_model.specs.History.{Entry, run}
-use Rattle.front_core.specs.Keeps.{first_start}
 use Rattle.wire_line.specs.declared.line.LineSpan.{LineSpan}
 use Rattle.wire_line.specs.declared.line.TheConstants.{LINE_LIMIT}
 use Rattle.wire_line.specs.Intake.{Intake, IsFirstLine, IsTooLong}
 use Rattle.wire_line.specs.Lines.{first_line, without_return}
 use Rattle.graph_shell.specs.Reply.{bad_line}
-use Rattle.graph_shell.specs.Events.{Answered, AnswersLine, answer_line, answer_short}
+use Rattle.graph_shell.specs.Events.{Kept, Answered, answer_line, answer_short}
+use Rattle.graph_shell.specs.Stands.{AnswersLine, Past, left_by}
 use Rattle.graph_shell.specs.Runs.{AnswersNext}
 
 within : (limit n : ℕ) → n ≤ limit → nat_lt limit n ≡ false
@@ -20,14 +18,14 @@ beyond : (limit n : ℕ) → limit < n → nat_lt limit n ≡ true
 beyond limit n long = grind (arith, nat_tests)
 
 -- a line that isn't too long is answered without its carriage return
-pub answers_short : (Stands : List Entry → Type 0) (text line ahead rest : List ℕ) (es : List Entry) (span : LineSpan) (before after : Intake)
+pub answers_short : (Stands : Past → Type 0) (text line ahead rest : List ℕ) (past : Past) (span : LineSpan) (before after : Intake)
     → IsFirstLine span before after ahead rest → line ≡ slice_range after.buffer span.from span.to
-    → AnswersLine (λ wanting w. answer_short wanting w line) Stands text es → AnswersNext Stands text before after ahead rest es
-answers_short Stands text line ahead rest es span before after first is a =
-    let w : World = run (start_world first_start) es in
-    let same : answer_short a.wanting w line ≡ answer_line a.wanting w (first_line ahead) =
-    ap (answer_short a.wanting w) (is ∙ first.text)
-    ∙ sym (ap (λ b. cond b (record { text = bad_line; world = w }) (answer_short a.wanting w (without_return (first_line ahead)))) (within LINE_LIMIT (length (first_line ahead)) first.short)) in
+    → AnswersLine (λ wanting k. answer_short wanting k line) Stands text past → AnswersNext Stands text before after ahead rest past
+answers_short Stands text line ahead rest past span before after first is a =
+    let k : Kept = left_by past in
+    let same : answer_short a.wanting k line ≡ answer_line a.wanting k (first_line ahead) =
+    ap (answer_short a.wanting k) (is ∙ first.text)
+    ∙ sym (ap (λ b. cond b (record { text = bad_line; after = k }) (answer_short a.wanting k (without_return (first_line ahead)))) (within LINE_LIMIT (length (first_line ahead)) first.short)) in
     record {
       there = first.there;
       answers = record {
@@ -35,7 +33,7 @@ answers_short Stands text line ahead rest es span before after first is a =
         after = a.after;
         stands = a.stands;
         text_is = a.text_is ∙ ap (λ (x : Answered). x.text) same;
-        world_is = a.world_is ∙ ap (λ (x : Answered). x.world) same;
+        left = a.left ∙ ap (λ (x : Answered). x.after) same;
       };
       behind = first.behind;
       at_next = first.at_next ∙ sym first.at_start;
@@ -48,21 +46,21 @@ not_empty ahead long empty = below (subst (λ x. LINE_LIMIT < length (first_line
     below l = omega (arith, l)
 
 -- a line that is too long is answered as a bad one
-pub answers_long : (Stands : List Entry → Type 0) (text ahead rest : List ℕ) (es : List Entry) (before after : Intake)
-    → IsTooLong before after ahead rest → before.passing ≡ false → text ≡ bad_line → Stands es → AnswersNext Stands text before after ahead rest es
-answers_long Stands text ahead rest es before after first start is stands =
+pub answers_long : (Stands : Past → Type 0) (text ahead rest : List ℕ) (past : Past) (before after : Intake)
+    → IsTooLong before after ahead rest → before.passing ≡ false → text ≡ bad_line → Stands past → AnswersNext Stands text before after ahead rest past
+answers_long Stands text ahead rest past before after first start is stands =
     let long : LINE_LIMIT < length (first_line ahead) = first.long start in
-    let w : World = run (start_world first_start) es in
-    let same : answer_line false w (first_line ahead) ≡ record { text = bad_line; world = w } =
-    ap (λ b. cond b (record { text = bad_line; world = w }) (answer_short false w (without_return (first_line ahead)))) (beyond LINE_LIMIT (length (first_line ahead)) long) in
+    let k : Kept = left_by past in
+    let same : answer_line false k (first_line ahead) ≡ record { text = bad_line; after = k } =
+    ap (λ b. cond b (record { text = bad_line; after = k }) (answer_short false k (without_return (first_line ahead)))) (beyond LINE_LIMIT (length (first_line ahead)) long) in
     record {
       there = not_empty ahead long;
       answers = record {
         wanting = false;
-        after = es;
+        after = past;
         stands = stands;
         text_is = is ∙ sym (ap (λ (x : Answered). x.text) same);
-        world_is = sym (ap (λ (x : Answered). x.world) same);
+        left = sym (ap (λ (x : Answered). x.after) same);
       };
       behind = first.behind;
       at_next = first.at_next ∙ sym start;

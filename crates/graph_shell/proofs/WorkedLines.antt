@@ -5,16 +5,17 @@ use Rattle.graph_value.specs.declared.id.EdgeId.{EdgeId}
 use Rattle.graph_value.specs.declared.id.Oid.TheVariants as oid
 use Rattle.undo_delta.specs.declared.ask.Ask.TheVariants.{DeleteVertex, AddLabel, RemoveLabel, CreateEdge, DeleteEdge}
 use Rattle.world_model.specs.declared.event.Event.{Event}
-use Rattle.world_model.specs.declared.event.Event.TheVariants.{Next, Read, Write, Abort, Mark}
+use Rattle.world_model.specs.declared.event.Event.TheVariants.{Next, Read, Write, Abort, Mark, Lift, Stats}
 use Rattle.world_model.specs.declared.event.When.TheVariants.{Own, At}
 use Rattle.world_model.specs.declared.event.Kind.TheVariants as kind
 use Rattle.graph_shell.specs.declared.request.Request.{Request}
+use Rattle.graph_shell.specs.declared.request.Wish.TheVariants as wish
 use Rattle.graph_shell.specs.Words.{number_below, name_of, oid_of, vertex_of}
 use Rattle.graph_shell.specs.Values.{json_value}
-use Rattle.graph_shell.specs.Request.{plain_event, when_of, read_event, kind_of, next_after, next_of, next_event, delete_event, label_event, unlabel_event, edge_event, set_event, property_event, worded_event, words_event, request_of}
+use Rattle.graph_shell.specs.Request.{plain_event, when_of, read_event, kind_of, next_after, next_of, next_event, delete_event, label_event, unlabel_event, edge_event, set_event, property_event, lift_event, worded_event, words_event, request_of}
 
 abbrev asks : Event → Option Request
-asks event = Some (record { caller = 1; event = event })
+asks event = Some (record { caller = 1; wish = wish.Event event })
 
 abbrev v0 : VertexId
 v0 = record { 0 = 0 }
@@ -29,6 +30,18 @@ an_abort = refl
 a_mark : request_of (codes "1 mark") ≡ asks Mark
 unfolding request_of number_below words_event plain_event
 a_mark = refl
+
+counts : request_of (codes "1 stats") ≡ asks Stats
+unfolding request_of number_below words_event plain_event
+counts = refl
+
+a_lift : request_of (codes "1 lift e1") ≡ asks (Lift (oid.Edge e1))
+unfolding request_of number_below words_event worded_event lift_event oid_of
+a_lift = refl
+
+an_installation : request_of (codes "1 install v0") ≡ Some (record { caller = 1; wish = wish.Install (oid.Vertex v0) })
+unfolding request_of number_below oid_of
+an_installation = refl
 
 at_an_instant : request_of (codes "1 read e1 at 7") ≡ asks (Read (oid.Edge e1) (At 7))
 unfolding request_of number_below words_event worded_event read_event when_of oid_of
@@ -71,6 +84,19 @@ label_of_an_edge = refl
 edge_to_an_edge : request_of (codes "1 edge v0 T e1") ≡ None
 unfolding request_of number_below words_event worded_event edge_event vertex_of oid_of name_of
 edge_to_an_edge = refl
+
+lift_of_two : request_of (codes "1 lift v0 v0") ≡ None
+unfolding request_of number_below words_event worded_event lift_event
+lift_of_two = refl
+
+-- nothing is said of a piece but its object
+install_with_more : request_of (codes "1 install v0 5") ≡ None
+unfolding request_of number_below words_event worded_event oid_of
+install_with_more = refl
+
+install_of_nothing : request_of (codes "1 install") ≡ None
+unfolding request_of number_below words_event plain_event
+install_of_nothing = refl
 
 two_spaces : request_of (codes "1 read  v0 own") ≡ None
 unfolding request_of number_below words_event worded_event read_event when_of oid_of

@@ -19,6 +19,9 @@ command_of _ = None
 abbrev pub IsInLimits : Command → Type 0
 IsInLimits (Events anchor) = IsAnchor anchor
 
+abbrev pub anchor_of : Command → ℕ
+anchor_of (Events anchor) = anchor
+
 -- the line that is written for words that are no command
 abbrev pub usage_line : List ℕ
 usage_line = codes "usage: aeong events|script|load|serve" ++ line_end
@@ -33,7 +36,7 @@ pub record ShowsUsage {O : Type 0} (h : sink.Ghosts O) (output output' : O) (sta
 -- What words lead to: the run of their command, or else the usage line, with the input untouched.
 pub record Does {I O : Type 0} (g : source.Ghosts I) (h : sink.Ghosts O) (words : List (List ℕ)) (input input' : I)
     (output output' : O) (status : ℕ) : Type 0 where
-  pub events : IfSome (command_of words) (λ _. Run g h input input' output output' status)
+  pub events : IfSome (command_of words) (λ command. Run (anchor_of command) g h input input' output output' status)
   pub usage : IfNone (command_of words) (ShowsUsage h output output' status)
   pub untouched : IfNone (command_of words) (input' ≡ input)
 

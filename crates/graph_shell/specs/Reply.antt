@@ -1,5 +1,5 @@
 -- The line that answers a request.
-use Rattle.std.specs.Prelude.{ℕ, List, [], ◌∷◌, ◌++◌, codes, Option, Some, None}
+use Rattle.std.specs.Prelude.{ℕ, List, [], ◌∷◌, ◌++◌, codes, length, Option, Some, None}
 use Rattle.std.specs.Fmt.{decimal}
 use Rattle.graph_value.specs.Id.{oid_text}
 use Rattle.graph_value.specs.declared.id.Oid.{Oid}
@@ -14,10 +14,12 @@ use Rattle.world_model.specs.declared.answer.Wrote.TheVariants as wrote
 use Rattle.world_model.specs.declared.answer.Refused.{Refused}
 use Rattle.world_model.specs.declared.answer.Refused.TheVariants as refused
 use Rattle.world_model.specs.declared.answer.Marked.{Marked}
-use Rattle.world_model.specs.declared.answer.Answer.{Answer}
-use Rattle.world_model.specs.declared.answer.Answer.TheVariants as answer
+use Rattle.world_model.specs.declared.answer.Stats.{Stats}
+use Rattle.world_model.specs.Pieces.{PieceParts}
+use Rattle.world_model.specs.Reply.{Reply}
+use Rattle.world_model.specs.Reply as reply
 use Rattle.world_model.specs.declared.event.Asked.{Asked}
-use Rattle.world_model.specs.declared.event.Asked.TheVariants.{Version, Number}
+use Rattle.world_model.specs.declared.event.Asked.TheVariants.{Nothing, Version, Number}
 use Rattle.world_model.specs.declared.event.Kind.{Kind}
 use Rattle.world_model.specs.declared.event.Kind.TheVariants as kind
 
@@ -35,6 +37,7 @@ refused_text (refused.Conflict x rival) = codes "refused 4 conflict " ++ oid_tex
 refused_text (refused.HasEdges id) = codes "refused 5 has edges " ++ oid_text (oid.Vertex id)
 refused_text (refused.TimeAhead t start) = codes "refused 6 time ahead " ++ decimal t ++ codes " start " ++ decimal start
 refused_text refused.ClockEnd = codes "refused 7 clock end"
+refused_text (refused.Stale cut) = codes "refused 8 stale cut " ++ decimal cut
 refused_text refused.TooMany = codes "refused 9 too many"
 refused_text refused.IdEnd = codes "refused 10 id end"
 refused_text refused.NoMemory = codes "refused 11 no memory"
@@ -66,22 +69,49 @@ found_text asked (Some n) = []
 abbrev pub marked_text : Marked → List ℕ
 marked_text marked = codes "mark " ++ decimal marked.mark ++ codes " clock " ++ decimal marked.clock
 
-abbrev pub answer_text : Asked → Answer → List ℕ
-answer_text asked (answer.Begun start) = codes "begin " ++ decimal start
-answer_text asked (answer.Id id) = found_text asked id
-answer_text asked (answer.Version object) = version_text asked object
-answer_text asked (answer.Wrote what) = wrote_text what
-answer_text asked (answer.Committed ts) = codes "commit " ++ decimal ts
-answer_text asked answer.Aborted = codes "abort"
-answer_text asked (answer.Marked marked) = marked_text marked
-answer_text asked (answer.Refused why) = refused_text why
+-- an object's deltas from its cut up to the mark are at hand
+abbrev pub lifted_text : Oid → ℕ → ℕ → ℕ → List ℕ
+lifted_text x cut mark deltas = codes "lifted " ++ oid_text x ++ codes " cut " ++ decimal cut ++ codes " mark " ++ decimal mark ++ codes " deltas " ++ decimal deltas
+
+-- the object's cut is now this one
+abbrev pub installed_text : Oid → ℕ → List ℕ
+installed_text x cut = codes "installed " ++ oid_text x ++ codes " cut " ++ decimal cut
+
+abbrev pub stats_text : Stats → List ℕ
+stats_text stats = codes "chain " ++ decimal stats.chain ++ codes " history " ++ decimal stats.history ++ codes " blocks " ++ decimal stats.blocks
+
+-- Of an installation only its piece can say more.
+abbrev pub answer_text : Asked → Reply → List ℕ
+answer_text asked (reply.Begun start) = codes "begin " ++ decimal start
+answer_text asked (reply.Id id) = found_text asked id
+answer_text asked (reply.Version object) = version_text asked object
+answer_text asked (reply.Wrote what) = wrote_text what
+answer_text asked (reply.Committed ts) = codes "commit " ++ decimal ts
+answer_text asked reply.Aborted = codes "abort"
+answer_text asked (reply.Marked marked) = marked_text marked
+answer_text asked (reply.Lifted lifted) = lifted_text lifted.x lifted.cut lifted.mark (length lifted.deltas)
+answer_text asked reply.Installed = codes "installed"
+answer_text asked (reply.Stats stats) = stats_text stats
+answer_text asked (reply.Refused why) = refused_text why
+
+-- the installation of a piece of an object
+abbrev pub piece_text : Oid → PieceParts → Reply → List ℕ
+piece_text x piece reply.Installed = installed_text x piece.mark
+piece_text x piece r = answer_text Nothing r
 
 abbrev pub line_end : List ℕ
 line_end = 10 ∷ []
 
 -- the caller, and what it is answered
-abbrev pub reply_text : ℕ → Asked → Answer → List ℕ
-reply_text caller asked answer = decimal caller ++ codes " " ++ answer_text asked answer ++ line_end
+abbrev pub caller_text : ℕ → List ℕ → List ℕ
+caller_text caller text = decimal caller ++ codes " " ++ text ++ line_end
+
+abbrev pub reply_text : ℕ → Asked → Reply → List ℕ
+reply_text caller asked r = caller_text caller (answer_text asked r)
+
+-- the answer to an installation where the caller keeps no piece of the object
+abbrev pub no_piece : List ℕ
+no_piece = codes "refused 13 no piece"
 
 -- the reply to a line that is no request
 abbrev pub bad_line : List ℕ

@@ -9,12 +9,14 @@ use Rattle.graph_value.specs.declared.value.Value.{Value}
 use Rattle.undo_delta.specs.declared.ask.Ask.{Ask}
 use Rattle.undo_delta.specs.declared.ask.Ask.TheVariants.{CreateVertex, DeleteVertex, AddLabel, RemoveLabel, SetVertexProp, CreateEdge, DeleteEdge, SetEdgeProp}
 use Rattle.world_model.specs.declared.event.Event.{Event}
-use Rattle.world_model.specs.declared.event.Event.TheVariants.{Begin, Next, Read, Write, Commit, Abort, Mark}
+use Rattle.world_model.specs.declared.event.Event.TheVariants.{Begin, Next, Read, Write, Commit, Abort, Mark, Lift, Stats}
 use Rattle.world_model.specs.declared.event.When.{When}
 use Rattle.world_model.specs.declared.event.When.TheVariants.{Own, At}
 use Rattle.world_model.specs.declared.event.Kind.{Kind}
 use Rattle.world_model.specs.declared.event.Kind.TheVariants as kind
 use Rattle.graph_shell.specs.declared.request.Request.{Request}
+use Rattle.graph_shell.specs.declared.request.Wish.{Wish}
+use Rattle.graph_shell.specs.declared.request.Wish.TheVariants as wish
 use Rattle.graph_shell.specs.Words.{◌>>=◌, words_of, cut, number_below, name_of, oid_of, vertex_of}
 use Rattle.graph_shell.specs.Values.{json_value}
 
@@ -27,6 +29,7 @@ plain_event verb =
     else if bytes_eq verb (codes "commit") then Some Commit
     else if bytes_eq verb (codes "abort") then Some Abort
     else if bytes_eq verb (codes "mark") then Some Mark
+    else if bytes_eq verb (codes "stats") then Some Stats
     else None
 
 -- READS
@@ -71,6 +74,11 @@ next_event [] = None
 next_event (word ∷ words) = do
   kind ← kind_of word
   next_of kind words
+
+-- the words behind `lift`
+unfoldable pub lift_event : List (List ℕ) → Option Event
+lift_event (object ∷ []) = option_map Lift (oid_of object)
+lift_event words = None
 
 -- WRITES
 
@@ -138,6 +146,7 @@ worded_event verb words =
     else if bytes_eq verb (codes "label") then label_event words
     else if bytes_eq verb (codes "unlabel") then unlabel_event words
     else if bytes_eq verb (codes "edge") then edge_event words
+    else if bytes_eq verb (codes "lift") then lift_event words
     else None
 
 unfoldable pub words_event : List (List ℕ) → Option Event
@@ -150,16 +159,30 @@ abbrev pub parted_event : List ℕ → Option (List ℕ × List ℕ) → Option 
 parted_event text None = words_event (words_of text)
 parted_event text (Some parts) = if bytes_eq parts.0 (codes "set") then set_event parts.1 else words_event (words_of text)
 
--- what the text behind the caller asks for
 abbrev pub event_of : List ℕ → Option Event
 event_of text = parted_event text (cut text)
+
+abbrev pub event_wish : List ℕ → Option Wish
+event_wish text = option_map wish.Event (event_of text)
+
+-- the installation that a text behind `install` asks for
+abbrev pub install_wish : List ℕ → Option Wish
+install_wish text = option_map wish.Install (oid_of text)
+
+abbrev pub parted_wish : List ℕ → Option (List ℕ × List ℕ) → Option Wish
+parted_wish text None = event_wish text
+parted_wish text (Some parts) = if bytes_eq parts.0 (codes "install") then install_wish parts.1 else event_wish text
+
+-- what the text behind the caller asks for
+abbrev pub wish_of : List ℕ → Option Wish
+wish_of text = parted_wish text (cut text)
 
 unfoldable pub request_of : List ℕ → Option Request
 request_of line = do
   parts ← cut line
   caller ← number_below (2 ^ 32) parts.0
-  event ← event_of parts.1
-  Some (record { caller = caller; event = event })
+  wish ← wish_of parts.1
+  Some (record { caller = caller; wish = wish })
 
 -- SKIPPED LINES
 

@@ -16,12 +16,14 @@ use Rattle.graph_record.specs.Json.{value_data}
 use Rattle.undo_delta.specs.declared.ask.Ask.{Ask}
 use Rattle.undo_delta.specs.declared.ask.Ask.TheVariants.{CreateVertex, DeleteVertex, AddLabel, RemoveLabel, SetVertexProp, CreateEdge, DeleteEdge, SetEdgeProp}
 use Rattle.world_model.specs.declared.event.Event.{Event}
-use Rattle.world_model.specs.declared.event.Event.TheVariants.{Begin, Next, Read, Write, Commit, Abort, Mark}
+use Rattle.world_model.specs.declared.event.Event.TheVariants.{Begin, Next, Read, Write, Commit, Abort, Mark, Lift, Install, Stats}
 use Rattle.world_model.specs.declared.event.When.{When}
 use Rattle.world_model.specs.declared.event.When.TheVariants.{Own, At}
 use Rattle.world_model.specs.declared.event.Kind.{Kind}
 use Rattle.world_model.specs.declared.event.Kind.TheVariants as kind
 use Rattle.graph_shell.specs.declared.request.Request.{Request}
+use Rattle.graph_shell.specs.declared.request.Wish.{Wish}
+use Rattle.graph_shell.specs.declared.request.Wish.TheVariants as wish
 use Rattle.graph_shell.specs.Words.{is_name}
 use Rattle.graph_shell.specs.Values.{json_value}
 use Rattle.graph_shell.specs.Request.{request_of}
@@ -56,6 +58,7 @@ ask_words (CreateEdge from kind to) = codes "edge" ∷ vertex_text from ∷ kind
 ask_words (DeleteEdge id) = codes "delete" ∷ edge_text id ∷ []
 ask_words (SetEdgeProp id name value) = set_words (oid.Edge id) name (value_text value)
 
+-- no line says the blocks of a piece
 abbrev pub event_words : Event → List (List ℕ)
 event_words Begin = codes "begin" ∷ []
 event_words (Next kind after when) = codes "next" ∷ kind_word kind ∷ search_words after when
@@ -64,13 +67,23 @@ event_words (Write ask) = ask_words ask
 event_words Commit = codes "commit" ∷ []
 event_words Abort = codes "abort" ∷ []
 event_words Mark = codes "mark" ∷ []
+event_words (Lift x) = codes "lift" ∷ oid_text x ∷ []
+event_words (Install piece) = []
+event_words Stats = codes "stats" ∷ []
+
+abbrev pub install_words : Oid → List (List ℕ)
+install_words x = codes "install" ∷ oid_text x ∷ []
+
+abbrev pub wish_words : Wish → List (List ℕ)
+wish_words (wish.Event event) = event_words event
+wish_words (wish.Install x) = install_words x
 
 -- the caller and the words, with a space between each two
 abbrev pub line_of : ℕ → List (List ℕ) → List ℕ
 line_of caller words = join_with_byte 32 (decimal caller ∷ words)
 
 abbrev pub spelling : Request → List ℕ
-spelling request = line_of request.caller (event_words request.event)
+spelling request = line_of request.caller (wish_words request.wish)
 
 -- WHAT HAS A SPELLING
 
@@ -133,10 +146,17 @@ IsSpelledEvent (Write ask) = IsSpelledAsk ask
 IsSpelledEvent Commit = Unit {0}
 IsSpelledEvent Abort = Unit {0}
 IsSpelledEvent Mark = Unit {0}
+IsSpelledEvent (Lift x) = IsSpelledOid x
+IsSpelledEvent (Install piece) = ⊥
+IsSpelledEvent Stats = Unit {0}
+
+abbrev pub IsSpelledWish : Wish → Type 0
+IsSpelledWish (wish.Event event) = IsSpelledEvent event
+IsSpelledWish (wish.Install x) = IsSpelledOid x
 
 -- Its numbers are in range, its names and its value can be written.
 abbrev pub HasSpelling : Request → Type 0
-HasSpelling request = (request.caller < 2 ^ 32) × IsSpelledEvent request.event
+HasSpelling request = (request.caller < 2 ^ 32) × IsSpelledWish request.wish
 
 -- WHAT A LINE IS THAT WAS READ
 
@@ -154,9 +174,13 @@ abbrev pub IsEventLine : List ℕ → ℕ → Event → Type 0
 IsEventLine line caller (Write ask) = IsAskLine line caller ask
 IsEventLine line caller event = IsSpelledEvent event × (line ≡ line_of caller (event_words event))
 
+abbrev pub IsWishLine : List ℕ → ℕ → Wish → Type 0
+IsWishLine line caller (wish.Event event) = IsEventLine line caller event
+IsWishLine line caller (wish.Install x) = IsSpelledOid x × (line ≡ line_of caller (install_words x))
+
 -- the line is the request's spelling, but that a value may be written in another way
 abbrev pub IsLineOf : List ℕ → Request → Type 0
-IsLineOf line request = (request.caller < 2 ^ 32) × IsEventLine line request.caller request.event
+IsLineOf line request = (request.caller < 2 ^ 32) × IsWishLine line request.caller request.wish
 
 -- THE LAWS
 

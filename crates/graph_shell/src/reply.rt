@@ -1,18 +1,21 @@
 ghost use Rattle.std.specs.Prelude.{◌≡◌, ◌++◌, OnOk, string_bytes};
 ghost use Rattle.graph_value.specs.Id.{oid_text};
-ghost use Rattle.world_model.specs.Replies.{IsAnswerTo, IsNumberAsked, IsVersionOf};
-ghost use Rattle.graph_shell.specs.Reply.{answer_text, bad_line, found_text, marked_text, numbered, refused_text, reply_text, rival_text, version_text, wrote_text};
+ghost use Rattle.world_model.specs.Replies.{IsNumberAsked, IsVersionOf};
+ghost use Rattle.world_model.specs.Reply.{reply_of};
+ghost use Rattle.graph_shell.specs.Reply.{answer_text, bad_line, caller_text, found_text, installed_text, lifted_text, marked_text, numbered, refused_text, rival_text, stats_text, version_text, wrote_text};
+ghost use Rattle.graph_shell.specs.Told.{IsPlain, IsToldTo, told_text};
 
 use crate::NoMemory;
+use crate::told::Told;
 use graph_record::{Object, push_object_json};
 use graph_value::{EdgeId, Oid, VertexId};
 use std::alloc::Global;
 use std::fmt::Write;
 use txn_manager::Rival;
-use world_model::{Answer, Asked, Kind, Marked, Refused, Wrote};
+use world_model::{Answer, Asked, Kind, Marked, Refused, Stats, Wrote};
 
-/// Appends the line that answers a caller. `asked` is the object whose version the answer is, or the kind of the object
-/// whose number it is; no other answer needs it.
+/// Appends the line that tells a caller what it asked for. `asked` is the object whose version is told, or the kind of
+/// the object whose number it is; nothing else needs it.
 ///
 /// The error says that memory was wanting; a part of the line may then stand in the text.
 pub fn push_reply(
@@ -20,14 +23,14 @@ pub fn push_reply(
     out: &mut String,
     caller: u64,
     asked: Asked,
-    answer: &Answer,
+    told: &Told,
 ) -> Result<(), NoMemory>
-    requires { IsAnswerTo asked answer.now }
+    requires { IsToldTo asked told.now }
     ensures ok { OnOk result (string_bytes out.new ≡ string_bytes out.old
-        ++ reply_text caller asked answer.now) }
+        ++ caller_text caller (told_text asked told.now)) }
 {
     write!(out, "{caller} ")?;
-    push_answer(alloc, out, asked, answer)?;
+    push_told(alloc, out, asked, told)?;
     out.push_str("\n")
 }
 
@@ -40,24 +43,48 @@ pub fn push_bad_line(out: &mut String) -> Result<(), NoMemory>
     out.push_str("- refused 12 bad line\n")
 }
 
-fn push_answer(
-    alloc: Global,
-    out: &mut String,
-    asked: Asked,
-    answer: &Answer,
-) -> Result<(), NoMemory>
-    requires { IsAnswerTo asked answer.now }
+fn push_told(alloc: Global, out: &mut String, asked: Asked, told: &Told) -> Result<(), NoMemory>
+    requires { IsToldTo asked told.now }
     ensures ok { OnOk result (string_bytes out.new ≡ string_bytes out.old
-        ++ answer_text asked answer.now) }
+        ++ told_text asked told.now) }
+{
+    match told {
+        Told::Answer(answer) => push_answer(out, asked, answer),
+        Told::Version(object) => push_version(alloc, out, asked, object),
+        Told::Lifted {
+            x,
+            cut,
+            mark,
+            deltas,
+        } => push_lifted(out, *x, *cut, *mark, *deltas),
+        Told::Installed { x, mark } => push_installed(out, *x, *mark),
+        Told::NoPiece => out.push_str("refused 13 no piece"),
+    }
+}
+
+fn push_answer(out: &mut String, asked: Asked, answer: &Answer) -> Result<(), NoMemory>
+    requires { IsPlain asked answer.now }
+    ensures ok { OnOk result (string_bytes out.new ≡ string_bytes out.old
+        ++ answer_text asked (reply_of answer.now)) }
 {
     match answer {
         Answer::Begun(start) => write!(out, "begin {start}"),
         Answer::Id(id) => push_found(out, asked, *id),
-        Answer::Version(object) => push_version(alloc, out, asked, object),
+        Answer::Version(_) => unreachable!(),
         Answer::Wrote(what) => push_wrote(out, *what),
         Answer::Committed(ts) => write!(out, "commit {ts}"),
         Answer::Aborted => out.push_str("abort"),
         Answer::Marked(marked) => push_marked(out, *marked),
+        Answer::Lifted(lifted) => push_lifted(
+            out,
+            lifted.x,
+            lifted.cut,
+            lifted.mark,
+            lifted.tail.deltas.len(),
+        ),
+        Answer::Installed => out.push_str("installed"),
+        Answer::NotInstalled(_) => push_refused(out, Refused::NoMemory),
+        Answer::Stats(stats) => push_stats(out, *stats),
         Answer::Refused(why) => push_refused(out, *why),
     }
 }
@@ -108,6 +135,33 @@ fn push_marked(out: &mut String, marked: Marked) -> Result<(), NoMemory>
     write!(out, "mark {mark} clock {clock}")
 }
 
+fn push_lifted(out: &mut String, x: Oid, cut: u64, mark: u64, deltas: u64) -> Result<(), NoMemory>
+    ensures ok { OnOk result (string_bytes out.new ≡ string_bytes out.old
+        ++ lifted_text x cut mark deltas) }
+{
+    out.push_str("lifted ")?;
+    push_oid(out, x)?;
+    write!(out, " cut {cut} mark {mark} deltas {deltas}")
+}
+
+fn push_installed(out: &mut String, x: Oid, mark: u64) -> Result<(), NoMemory>
+    ensures ok { OnOk result (string_bytes out.new ≡ string_bytes out.old
+        ++ installed_text x mark) }
+{
+    out.push_str("installed ")?;
+    push_oid(out, x)?;
+    write!(out, " cut {mark}")
+}
+
+fn push_stats(out: &mut String, stats: Stats) -> Result<(), NoMemory>
+    ensures ok { OnOk result (string_bytes out.new ≡ string_bytes out.old ++ stats_text stats) }
+{
+    let chain = stats.chain;
+    let history = stats.history;
+    let blocks = stats.blocks;
+    write!(out, "chain {chain} history {history} blocks {blocks}")
+}
+
 fn push_wrote(out: &mut String, what: Wrote) -> Result<(), NoMemory>
     ensures ok { OnOk result (string_bytes out.new ≡ string_bytes out.old ++ wrote_text what) }
 {
@@ -133,6 +187,7 @@ fn push_refused(out: &mut String, why: Refused) -> Result<(), NoMemory>
         Refused::HasEdges(id) => push_has_edges(out, id),
         Refused::TimeAhead { t, start } => push_time_ahead(out, t, start),
         Refused::ClockEnd => out.push_str("refused 7 clock end"),
+        Refused::Stale { cut } => write!(out, "refused 8 stale cut {cut}"),
         Refused::TooMany => out.push_str("refused 9 too many"),
         Refused::IdEnd => out.push_str("refused 10 id end"),
         Refused::NoMemory => out.push_str("refused 11 no memory"),

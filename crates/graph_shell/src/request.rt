@@ -1,6 +1,7 @@
 ghost use Rattle.std.specs.Prelude.{◌≡◌, ◌==◌, IfOk, map};
 ghost use Rattle.std.specs.List.{list_all};
-ghost use Rattle.graph_shell.specs.Request.{event_of, is_blank, is_skipped, plain_event, request_of, words_event, worded_event};
+ghost use Rattle.graph_shell.specs.Request.{event_of, event_wish, install_wish, is_blank, is_skipped, plain_event, request_of, wish_of, words_event, worded_event};
+ghost use Rattle.graph_shell.specs.Told.{wished};
 ghost use Rattle.graph_shell.specs.Words.{words_of};
 
 mod integer;
@@ -12,20 +13,43 @@ mod words;
 mod writes;
 
 use crate::NoMemory;
+use graph_value::Oid;
 use number::number_below;
-use reads::{next_event, read_event};
+use object::oid;
+use reads::{lift_event, next_event, read_event};
 use std::alloc::Global;
 use undo_delta::Ask;
 use words::{cut, is_space};
-use world_model::Event;
+use world_model::{Asked, Event};
 use writes::{delete_event, edge_event, label_event, set_event, unlabel_event};
+
+/// What a caller wishes.
+#[derive(Drop)]
+pub enum Wish {
+    /// That the store take an event.
+    Event(Event),
+    /// That the piece be installed which the caller keeps of an object.
+    Install(Oid),
+}
+
+impl Wish {
+    /// What the caller asks to be told.
+    pub fn asked(&self) -> Asked
+        ensures { result ≡ wished self.now }
+    {
+        match self {
+            Wish::Event(event) => event.asked(),
+            Wish::Install(_) => Asked::Nothing,
+        }
+    }
+}
 
 /// What one line asks for.
 #[derive(Drop)]
 pub struct Request {
     /// Who asks, below 2^32.
     pub caller: u64,
-    pub event: Event,
+    pub wish: Wish,
 }
 
 /// Whether a line has nothing but spaces and tabs.
@@ -58,13 +82,40 @@ pub fn read_request(alloc: Global, line: &[u8]) -> Result<Option<Request>, NoMem
     let Some(caller) = number_below(word, 1 << 32) else {
         return Ok(None);
     };
-    let Some(event) = event(alloc, text)? else {
+    let Some(wish) = any_wish(alloc, text)? else {
         return Ok(None);
     };
-    Ok(Some(Request { caller, event }))
+    Ok(Some(Request { caller, wish }))
 }
 
 /// What the text behind the caller asks for.
+fn any_wish(alloc: Global, text: &[u8]) -> Result<Option<Wish>, NoMemory>
+    ensures { IfOk result (λ w. w ≡ wish_of text.now) }
+{
+    match cut(text) {
+        Some((verb, rest)) if verb == b"install".as_slice() => Ok(install_wish(rest)),
+        _ => event_wish(alloc, text),
+    }
+}
+
+/// The installation that a text behind `install` asks for.
+fn install_wish(text: &[u8]) -> Option<Wish>
+    ensures { result ≡ install_wish text.now }
+{
+    let x = oid(text)?;
+    Some(Wish::Install(x))
+}
+
+fn event_wish(alloc: Global, text: &[u8]) -> Result<Option<Wish>, NoMemory>
+    ensures { IfOk result (λ w. w ≡ event_wish text.now) }
+{
+    let Some(event) = event(alloc, text)? else {
+        return Ok(None);
+    };
+    Ok(Some(Wish::Event(event)))
+}
+
+/// The event that a text asks for.
 fn event(alloc: Global, text: &[u8]) -> Result<Option<Event>, NoMemory>
     ensures { IfOk result (λ e. e ≡ event_of text.now) }
 {
@@ -120,6 +171,8 @@ fn plain_event(verb: &[u8]) -> Option<Event>
         Some(Event::Abort)
     } else if verb == b"mark".as_slice() {
         Some(Event::Mark)
+    } else if verb == b"stats".as_slice() {
+        Some(Event::Stats)
     } else {
         None
     }
@@ -142,6 +195,8 @@ fn worded_event(alloc: Global, verb: &[u8], words: &[&[u8]]) -> Result<Option<Ev
         unlabel_event(alloc, words)
     } else if verb == b"edge".as_slice() {
         edge_event(alloc, words)
+    } else if verb == b"lift".as_slice() {
+        Ok(lift_event(words))
     } else {
         Ok(None)
     }

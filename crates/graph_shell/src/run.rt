@@ -1,12 +1,11 @@
-ghost use Rattle.std.specs.Prelude.{◌≡◌, ◌≢◌, List, false, string_bytes};
+ghost use Rattle.std.specs.Prelude.{◌≡◌, ◌≢◌, false, string_bytes};
 ghost use Rattle.wire_line.specs.Calls.{Reads, SourceRose, WhereLeft};
-ghost use Rattle.world_model.specs.History.{Entry};
-ghost use Rattle.front_core.specs.Keeps.{StandsFor, first_start};
 ghost use Rattle.graph_shell.specs.Runs.{Continues, IsAnchor, IsTurnAfter, Run, status_of};
+ghost use Rattle.graph_shell.specs.Stands.{Past, Stands};
 
 use crate::answer::answer_line;
 use crate::reply::push_bad_line;
-use front_core::Core;
+use crate::shell::Shell;
 use std::alloc::Global;
 use wire_line::{Line, Lines, Sink, Source, write_whole};
 
@@ -43,22 +42,22 @@ impl Ending {
 /// Reads the next line and answers it: the reply is all that the text then holds.
 fn answer_next<I: Source>(
     alloc: Global,
-    core: &mut Core,
+    shell: &mut Shell,
     lines: &mut Lines,
     reply: &mut String,
     input: &mut I,
 ) -> Result<(), Ending>
     ensures turn { WhereLeft I.Source input.old input.new (λ left left'.
-        (es : List Entry) → StandsFor first_start core.old es → lines.old.passing ≡ false
-        → Continues result (StandsFor first_start core.new) (string_bytes reply.new)
-        lines.old lines.new left left' es) }
+        (past : Past) → Stands shell.old past → lines.old.passing ≡ false
+        → Continues result (Stands shell.new) (string_bytes reply.new)
+        lines.old lines.new left left' past) }
     ensures reads { Reads I.Source input.old input.new lines.old lines.new }
     ensures limit { IsTurnAfter result lines.new.taken }
     ensures fault { result ≡ Err Ending.SourceFault → SourceRose I.Source input.old input.new }
     ensures no_sink { result ≢ Err Ending.SinkFault }
 {
     match lines.next(input) {
-        Line::Whole(span) => match answer_line(alloc, core, lines.bytes(span), reply) {
+        Line::Whole(span) => match answer_line(alloc, shell, lines.bytes(span), reply) {
             Ok(()) => Ok(()),
             Err(_) => Err(Ending::NoMemory),
         },
@@ -83,15 +82,15 @@ fn answer_all<I: Source, O: Sink>(
     output: &mut O,
 ) -> Ending
     requires anchor { IsAnchor anchor }
-    ensures run { Run I.Source O.Sink input.old input.new output.old output.new (status_of result) }
+    ensures run { Run anchor I.Source O.Sink input.old input.new output.old output.new (status_of result) }
 {
     let mut reply = String::new(alloc);
-    let (Ok(mut core), Ok(mut lines)) = (Core::new(alloc, anchor), Lines::new(alloc)) else {
+    let (Ok(mut shell), Ok(mut lines)) = (Shell::new(alloc, anchor), Lines::new(alloc)) else {
         return Ending::NoMemory;
     };
     // An input within its limit has fewer lines than there are turns.
     for _ in 0..u64::MAX {
-        if let Err(ending) = answer_next(alloc, &mut core, &mut lines, &mut reply, input) {
+        if let Err(ending) = answer_next(alloc, &mut shell, &mut lines, &mut reply, input) {
             return ending;
         }
         match write_whole(output, reply.as_bytes()) {
@@ -115,7 +114,7 @@ pub fn run_events<I: Source, O: Sink>(
     output: &mut O,
 ) -> u8
     requires anchor { IsAnchor anchor }
-    ensures run { Run I.Source O.Sink input.old input.new output.old output.new result }
+    ensures run { Run anchor I.Source O.Sink input.old input.new output.old output.new result }
 {
     answer_all(alloc, anchor, input, output).status()
 }

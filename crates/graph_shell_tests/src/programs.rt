@@ -1,6 +1,5 @@
-use front_core::Core;
 use graph_shell::{
-    Command, NoMemory, aeong_main, answer_args, answer_line, is_skipped, push_bad_line,
+    Command, NoMemory, Shell, aeong_main, answer_args, answer_line, is_skipped, push_bad_line,
     read_request, read_words, run_events,
 };
 use graph_value::Text;
@@ -330,8 +329,8 @@ fn lines_are_told_apart(rt: HostRuntime) -> Result<(), Fail> {
 }
 
 fn begin_is_answered(alloc: Global, reply: &mut String) -> Result<(), NoMemory> {
-    let mut core = Core::new(alloc, 16)?;
-    answer_line(alloc, &mut core, b"1 begin", reply)
+    let mut shell = Shell::new(alloc, 16)?;
+    answer_line(alloc, &mut shell, b"1 begin", reply)
 }
 
 /// The answers to a line and to a bad line, one behind the other.

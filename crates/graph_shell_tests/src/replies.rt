@@ -1,13 +1,13 @@
-ghost use Rattle.world_model.specs.Replies.{IsAnswerTo};
+ghost use Rattle.graph_shell.specs.Told.{IsPlain, IsToldTo};
 ghost use Rattle.world_model.specs.declared.event.Asked.TheVariants as asked;
 
 use graph_record::{Object, VertexRecord};
-use graph_shell::{NoMemory, push_bad_line, push_reply};
+use graph_shell::{NoMemory, Told, push_reply};
 use graph_value::{EdgeId, Oid, VertexId};
 use std::alloc::Global;
 use std::test::Fail;
 use txn_manager::Rival;
-use world_model::{Answer, Asked, Kind, Marked, Refused, Wrote};
+use world_model::{Answer, Asked, Kind, Marked, Refused, Stats, Wrote};
 
 /// An answer whose event asks to be told nothing else.
 #[derive(Clone, Copy)]
@@ -18,6 +18,7 @@ enum Said {
     Committed(u64),
     Aborted,
     Marked(Marked),
+    Stats(Stats),
 }
 
 /// An answer, and its line to caller 1.
@@ -30,7 +31,7 @@ const V0: Oid = Oid::Vertex(VertexId(0));
 
 const E12: Oid = Oid::Edge(EdgeId(12));
 
-static REFUSALS: [Row; 11] = [
+static REFUSALS: [Row; 12] = [
     (
         Said::Refused(Refused::NoTxn),
         "1 refused 1 no transaction\n",
@@ -60,12 +61,16 @@ static REFUSALS: [Row; 11] = [
         "1 refused 6 time ahead 3 start 2\n",
     ),
     (Said::Refused(Refused::ClockEnd), "1 refused 7 clock end\n"),
+    (
+        Said::Refused(Refused::Stale { cut: 5 }),
+        "1 refused 8 stale cut 5\n",
+    ),
     (Said::Refused(Refused::TooMany), "1 refused 9 too many\n"),
     (Said::Refused(Refused::IdEnd), "1 refused 10 id end\n"),
     (Said::Refused(Refused::NoMemory), "1 refused 11 no memory\n"),
 ];
 
-static ANSWERS: [Row; 8] = [
+static ANSWERS: [Row; 9] = [
     (Said::Wrote(Wrote::Done), "1 done\n"),
     (Said::Wrote(Wrote::Unchanged), "1 unchanged\n"),
     (Said::Wrote(Wrote::Vertex(VertexId(5))), "1 v5\n"),
@@ -82,6 +87,14 @@ static ANSWERS: [Row; 8] = [
         }),
         "1 mark 3 clock 9\n",
     ),
+    (
+        Said::Stats(Stats {
+            chain: 1,
+            history: 3,
+            blocks: 2,
+        }),
+        "1 chain 1 history 3 blocks 2\n",
+    ),
 ];
 
 static FOUND: [FoundRow; 4] = [
@@ -92,7 +105,7 @@ static FOUND: [FoundRow; 4] = [
 ];
 
 fn answer_of(said: Said) -> Answer
-    ensures { IsAnswerTo asked.Nothing result }
+    ensures { IsPlain asked.Nothing result }
 {
     match said {
         Said::Refused(why) => Answer::Refused(why),
@@ -101,36 +114,56 @@ fn answer_of(said: Said) -> Answer
         Said::Committed(ts) => Answer::Committed(ts),
         Said::Aborted => Answer::Aborted,
         Said::Marked(marked) => Answer::Marked(marked),
+        Said::Stats(stats) => Answer::Stats(stats),
     }
 }
 
-/// Whether the answer's line is this one.
-fn is_line(alloc: Global, asked: Asked, answer: &Answer, wanted: &str) -> Result<bool, NoMemory>
-    requires { IsAnswerTo asked answer.now }
+/// Whether what is told is this line.
+fn is_line(alloc: Global, asked: Asked, told: &Told, wanted: &str) -> Result<bool, NoMemory>
+    requires { IsToldTo asked told.now }
 {
     let mut out = String::new(alloc);
-    push_reply(alloc, &mut out, 1, asked, answer)?;
+    push_reply(alloc, &mut out, 1, asked, told)?;
     Ok(out.as_str() == wanted)
 }
 
 fn is_printed(alloc: Global, row: &Row) -> Result<bool, NoMemory> {
-    let answer = answer_of(row.0);
-    is_line(alloc, Asked::Nothing, &answer, row.1)
+    let told = Told::Answer(answer_of(row.0));
+    is_line(alloc, Asked::Nothing, &told, row.1)
 }
 
 fn is_found_printed(alloc: Global, row: &FoundRow) -> Result<bool, NoMemory> {
-    let answer = Answer::Id(row.1);
-    is_line(alloc, Asked::Number(row.0), &answer, row.2)
+    let told = Told::Answer(Answer::Id(row.1));
+    is_line(alloc, Asked::Number(row.0), &told, row.2)
 }
 
 fn is_dead_printed(alloc: Global) -> Result<bool, NoMemory> {
-    let answer = Answer::Version(Object::Dead);
-    is_line(alloc, Asked::Version(V0), &answer, "1 dead\n")
+    let told = Told::Version(Object::Dead);
+    is_line(alloc, Asked::Version(V0), &told, "1 dead\n")
 }
 
 fn is_empty_printed(alloc: Global, wanted: &str) -> Result<bool, NoMemory> {
-    let answer = Answer::Version(Object::Vertex(VertexRecord::empty(alloc)));
-    is_line(alloc, Asked::Version(V0), &answer, wanted)
+    let told = Told::Version(Object::Vertex(VertexRecord::empty(alloc)));
+    is_line(alloc, Asked::Version(V0), &told, wanted)
+}
+
+fn is_lift_printed(alloc: Global, wanted: &str) -> Result<bool, NoMemory> {
+    let told = Told::Lifted {
+        x: E12,
+        cut: 2,
+        mark: 5,
+        deltas: 3,
+    };
+    is_line(alloc, Asked::Nothing, &told, wanted)
+}
+
+fn is_installation_printed(alloc: Global, wanted: &str) -> Result<bool, NoMemory> {
+    let told = Told::Installed { x: V0, mark: 5 };
+    is_line(alloc, Asked::Nothing, &told, wanted)
+}
+
+fn is_no_piece_printed(alloc: Global, wanted: &str) -> Result<bool, NoMemory> {
+    is_line(alloc, Asked::Nothing, &Told::NoPiece, wanted)
 }
 
 /// The first of the lines that its answer isn't printed as.
@@ -168,5 +201,13 @@ fn prints_versions(rt: HostRuntime) -> Result<(), Fail> {
     assert!(rt; is_dead_printed(rt.alloc())?);
     let wanted = "1 {\"id\":0,\"ins\":[],\"labels\":[],\"outs\":[],\"properties\":{}}\n";
     assert!(rt; is_empty_printed(rt.alloc(), wanted)?);
+    Ok(())
+}
+
+#[test]
+fn prints_pieces(rt: HostRuntime) -> Result<(), Fail> {
+    assert!(rt; is_lift_printed(rt.alloc(), "1 lifted e12 cut 2 mark 5 deltas 3\n")?);
+    assert!(rt; is_installation_printed(rt.alloc(), "1 installed v0 cut 5\n")?);
+    assert!(rt; is_no_piece_printed(rt.alloc(), "1 refused 13 no piece\n")?);
     Ok(())
 }

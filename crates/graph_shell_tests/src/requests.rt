@@ -36,7 +36,7 @@ fn first_taken(alloc: Global, lines: &[&'static str]) -> Result<Option<&'static 
     Ok(None)
 }
 
-static PLAIN: [Row; 8] = [
+static PLAIN: [Row; 9] = [
     ("1 begin", "1: opens"),
     ("0 begin", "0: opens"),
     ("4294967295 begin", "4294967295: opens"),
@@ -45,11 +45,40 @@ static PLAIN: [Row; 8] = [
     ("7 abort", "7: aborts"),
     ("7 mark", "7: marks"),
     ("10 mark", "10: marks"),
+    ("7 stats", "7: counts"),
 ];
 
 #[test]
 fn reads_plain_verbs(rt: HostRuntime) -> Result<(), Fail> {
     assert_eq!(rt; first_untold(rt.alloc(), &PLAIN)?, None);
+    Ok(())
+}
+
+static MOVES: [Row; 4] = [
+    ("1 lift v0", "1: lifts vertex 0"),
+    ("1 lift e7", "1: lifts edge 7"),
+    ("1 install v0", "1: moves vertex 0"),
+    (
+        "1 install e9223372036854775807",
+        "1: moves edge 9223372036854775807",
+    ),
+];
+
+static NO_MOVES: [&'static str; 8] = [
+    "1 lift",
+    "1 lift v0 v1",
+    "1 lift v0 ",
+    "1 lift x0",
+    "1 install",
+    "1 install v0 5",
+    "1 install v00",
+    "1 stats v0",
+];
+
+#[test]
+fn reads_lifts_and_installations(rt: HostRuntime) -> Result<(), Fail> {
+    assert_eq!(rt; first_untold(rt.alloc(), &MOVES)?, None);
+    assert_eq!(rt; first_taken(rt.alloc(), &NO_MOVES)?, None);
     Ok(())
 }
 

@@ -1,4 +1,4 @@
-use graph_shell::{NoMemory, Request, read_request};
+use graph_shell::{NoMemory, Request, Wish, read_request};
 use graph_value::{EdgeId, Name, Oid, Value, VertexId};
 use std::alloc::Global;
 use std::fmt::Write;
@@ -10,12 +10,22 @@ pub fn told(alloc: Global, line: &[u8]) -> Result<String, NoMemory> {
     let mut out = String::new(alloc);
     match read_request(alloc, line)? {
         None => out.push_str("nothing")?,
-        Some(Request { caller, event }) => {
+        Some(Request { caller, wish }) => {
             write!(out, "{caller}: ")?;
-            tell_event(&mut out, &event)?;
+            tell_wish(&mut out, &wish)?;
         }
     }
     Ok(out)
+}
+
+fn tell_wish(out: &mut String, wish: &Wish) -> Result<(), NoMemory> {
+    match wish {
+        Wish::Event(event) => tell_event(out, event),
+        Wish::Install(x) => {
+            out.push_str("moves ")?;
+            tell_object(out, *x)
+        }
+    }
 }
 
 fn tell_event(out: &mut String, event: &Event) -> Result<(), NoMemory> {
@@ -27,6 +37,12 @@ fn tell_event(out: &mut String, event: &Event) -> Result<(), NoMemory> {
         Event::Commit => out.push_str("commits"),
         Event::Abort => out.push_str("aborts"),
         Event::Mark => out.push_str("marks"),
+        Event::Lift(x) => {
+            out.push_str("lifts ")?;
+            tell_object(out, *x)
+        }
+        Event::Install(_) => out.push_str("?"),
+        Event::Stats => out.push_str("counts"),
     }
 }
 

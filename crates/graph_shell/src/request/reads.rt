@@ -1,5 +1,5 @@
 ghost use Rattle.std.specs.Prelude.{◌≡◌, map};
-ghost use Rattle.graph_shell.specs.Request.{kind_of, next_after, next_event, next_of, read_event, when_of};
+ghost use Rattle.graph_shell.specs.Request.{kind_of, lift_event, next_after, next_event, next_of, read_event, when_of};
 
 use crate::request::number::number_below;
 use crate::request::object::oid;
@@ -14,6 +14,18 @@ pub fn read_event(words: &[&[u8]]) -> Option<Event>
     let x = oid(object)?;
     let when = when(words)?;
     Some(Event::Read { x, when })
+}
+
+/// The lift of an object: the word behind `lift`.
+#[tactic(auto, unfolding(crate::specs::Request::lift_event))]
+pub fn lift_event(words: &[&[u8]]) -> Option<Event>
+    ensures { result ≡ lift_event (map (λ w. w.now) words.now) }
+{
+    let [object] = words else {
+        return None;
+    };
+    let x = oid(object)?;
+    Some(Event::Lift(x))
 }
 
 /// The search for the next object: the words behind `next`.

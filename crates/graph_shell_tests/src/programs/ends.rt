@@ -119,20 +119,20 @@ static ROWS: [Row; 6] = [
 /// Appends the answer to the line.
 fn push_answer(
     alloc: Global,
-    core: &mut Core,
+    shell: &mut Shell,
     line: &str,
     all: &mut String,
 ) -> Result<(), NoMemory> {
     let mut reply = String::new(alloc);
-    answer_line(alloc, core, line.as_bytes(), &mut reply)?;
+    answer_line(alloc, shell, line.as_bytes(), &mut reply)?;
     all.push_str(reply.as_str())
 }
 
 /// The answers to the lines, one behind the other.
-fn answers(alloc: Global, core: &mut Core, lines: &str) -> Result<String, NoMemory> {
+fn answers(alloc: Global, shell: &mut Shell, lines: &str) -> Result<String, NoMemory> {
     let mut all = String::new(alloc);
     for line in lines.split('\n') {
-        push_answer(alloc, core, line, &mut all)?;
+        push_answer(alloc, shell, line, &mut all)?;
     }
     Ok(all)
 }
@@ -140,11 +140,11 @@ fn answers(alloc: Global, core: &mut Core, lines: &str) -> Result<String, NoMemo
 /// Whether the lines are answered so, and no other way.
 fn are_answered(
     alloc: Global,
-    core: &mut Core,
+    shell: &mut Shell,
     lines: &str,
     wanted: &str,
 ) -> Result<bool, NoMemory> {
-    Ok(answers(alloc, core, lines)?.as_str() == wanted)
+    Ok(answers(alloc, shell, lines)?.as_str() == wanted)
 }
 
 /// Whether the row's store may begin there, and its lines are answered so.
@@ -153,8 +153,8 @@ fn is_answered_from(alloc: Global, row: &Row) -> Result<bool, NoMemory> {
     if clock < 1 || clock > CLOCK_END || vertices > ID_END || edges > ID_END {
         return Ok(false);
     }
-    let mut core = Core::new_at(alloc, 1, clock, vertices, edges)?;
-    are_answered(alloc, &mut core, row.2, row.3)
+    let mut shell = Shell::new_at(alloc, 1, clock, vertices, edges)?;
+    are_answered(alloc, &mut shell, row.2, row.3)
 }
 
 #[test]
@@ -166,28 +166,33 @@ fn counters_end(rt: HostRuntime) -> Result<(), Fail> {
 }
 
 /// Begins a transaction of the caller.
-fn begin(alloc: Global, core: &mut Core, caller: u64, reply: &mut String) -> Result<(), NoMemory> {
+fn begin(
+    alloc: Global,
+    shell: &mut Shell,
+    caller: u64,
+    reply: &mut String,
+) -> Result<(), NoMemory> {
     let mut line = String::new(alloc);
     write!(&mut line, "{caller} begin")?;
-    answer_line(alloc, core, line.as_bytes(), reply)
+    answer_line(alloc, shell, line.as_bytes(), reply)
 }
 
 /// Begins transactions of 1024 callers, and says whether the last is answered as it has to be.
-fn all_begin(alloc: Global, core: &mut Core) -> Result<bool, NoMemory> {
+fn all_begin(alloc: Global, shell: &mut Shell) -> Result<bool, NoMemory> {
     let mut reply = String::new(alloc);
     for caller in 0..1024 {
-        begin(alloc, core, caller, &mut reply)?;
+        begin(alloc, shell, caller, &mut reply)?;
     }
     Ok(reply.as_str() == "1023 begin 1024\n")
 }
 
 /// Whether so many transactions may be open, and another one once one of them has ended.
-fn places_end(alloc: Global, core: &mut Core) -> Result<bool, NoMemory> {
+fn places_end(alloc: Global, shell: &mut Shell) -> Result<bool, NoMemory> {
     Ok(
-        all_begin(alloc, core)?
+        all_begin(alloc, shell)?
             && are_answered(
                 alloc,
-                core,
+                shell,
                 "1024 begin\n3 begin\n3 abort\n1024 begin",
                 "1024 refused 9 too many\n3 refused 2 already open\n3 abort\n1024 begin 1025\n",
             )?,
@@ -195,8 +200,8 @@ fn places_end(alloc: Global, core: &mut Core) -> Result<bool, NoMemory> {
 }
 
 fn places_end_at_once(alloc: Global) -> Result<bool, NoMemory> {
-    let mut core = Core::new(alloc, 1)?;
-    places_end(alloc, &mut core)
+    let mut shell = Shell::new(alloc, 1)?;
+    places_end(alloc, &mut shell)
 }
 
 #[test]

@@ -522,6 +522,138 @@ static ROWS: [Row; 12] = [
     ),
 ];
 
+/// Runs in which deltas are moved into history.
+static HISTORIES: [Row; 4] = [
+    (
+        "a commit between a lift and the installation",
+        r#"1 begin
+1 vertex
+1 set v0 k 5
+1 commit
+1 begin
+1 set v0 k 6
+1 commit
+2 begin
+1 lift v0
+1 begin
+1 set v0 k 7
+1 commit
+1 install v0
+1 stats
+2 read v0 own
+2 read v0 at 3
+2 read v0 at 1
+1 lift v1
+"#,
+        r#"1 begin 1
+1 v0
+1 done
+1 commit 2
+1 begin 3
+1 done
+1 commit 4
+2 begin 5
+1 lifted v0 cut 0 mark 5 deltas 3
+1 begin 6
+1 done
+1 commit 7
+1 installed v0 cut 5
+1 chain 1 history 3 blocks 3
+2 {"id":0,"ins":[],"labels":[],"outs":[],"properties":{"k":6}}
+2 {"id":0,"ins":[],"labels":[],"outs":[],"properties":{"k":5}}
+2 dead
+1 refused 3 missing v1
+"#,
+    ),
+    (
+        "a piece is kept by its caller, and sent once",
+        r#"1 begin
+1 vertex
+1 commit
+1 install v0
+1 lift v0
+2 install v0
+1 install e0
+1 install v0
+1 install v0
+"#,
+        r#"1 begin 1
+1 v0
+1 commit 2
+1 refused 13 no piece
+1 lifted v0 cut 0 mark 3 deltas 1
+2 refused 13 no piece
+1 refused 13 no piece
+1 installed v0 cut 3
+1 refused 13 no piece
+"#,
+    ),
+    (
+        "the later of two pieces is stale, and is kept no longer",
+        r#"1 begin
+1 vertex
+1 commit
+1 lift v0
+2 lift v0
+1 install v0
+2 install v0
+2 install v0
+2 lift v0
+2 install v0
+1 stats
+"#,
+        r#"1 begin 1
+1 v0
+1 commit 2
+1 lifted v0 cut 0 mark 3 deltas 1
+2 lifted v0 cut 0 mark 3 deltas 1
+1 installed v0 cut 3
+2 refused 8 stale cut 3
+2 refused 13 no piece
+2 lifted v0 cut 3 mark 3 deltas 0
+2 installed v0 cut 3
+1 chain 0 history 1 blocks 1
+"#,
+    ),
+    (
+        "a second lift takes the place of the first, and an edge leaves three deltas",
+        r#"1 begin
+1 vertex
+1 vertex
+1 edge v0 T v1
+1 edge v1 L v1
+1 commit
+1 lift v1
+1 begin
+1 set v1 k 1
+1 commit
+1 lift v1
+1 install v1
+1 stats
+1 lift e0
+1 install e0
+1 stats
+"#,
+        r#"1 begin 1
+1 v0
+1 v1
+1 e0
+1 e1
+1 commit 2
+1 lifted v1 cut 0 mark 3 deltas 4
+1 begin 3
+1 done
+1 commit 4
+1 lifted v1 cut 0 mark 5 deltas 5
+1 installed v1 cut 5
+1 chain 4 history 5 blocks 5
+1 lifted e0 cut 0 mark 5 deltas 1
+1 installed e0 cut 5
+1 chain 3 history 6 blocks 6
+"#,
+    ),
+];
+
 /// Whether the source's lines are answered so, and no other way.
 fn is_answered_from(
     alloc: Global,
@@ -542,6 +674,14 @@ fn is_answered(alloc: Global, row: &Row) -> Result<bool, NoMemory> {
 #[test]
 fn runs_are_answered(rt: HostRuntime) -> Result<(), Fail> {
     for row in &ROWS {
+        assert!(rt; is_answered(rt.alloc(), row)?, "{}", row.0);
+    }
+    Ok(())
+}
+
+#[test]
+fn histories_are_answered(rt: HostRuntime) -> Result<(), Fail> {
+    for row in &HISTORIES {
         assert!(rt; is_answered(rt.alloc(), row)?, "{}", row.0);
     }
     Ok(())

@@ -1,13 +1,13 @@
 use Rattle.std.proofs.Common.{◌≡◌, ◌+◌, ◌≤◌, length}
 use Rattle.wire_line.specs.declared.line.TheConstants.{INPUT_LIMIT}
 use Rattle.wire_line.specs.Calls.{SameInput, WhereLeft, WhereTaken}
-use Rattle.front_core.specs.Keeps.{StandsFor, first_start}
+use Rattle.graph_shell.specs.Stands.{Stands}
 use Rattle.graph_shell.proofs.SoFar.{SoFar}
 use Rattle.graph_shell.proofs.run.answer_all.Given as goal
 
 abbrev pub invariant-loop : goal.invariant-loop
 invariant-loop g l = record {
-  bytes : WhereLeft g.I.Source l.fn.input l.input (λ list left. WhereTaken g.O.Sink l.fn.output l.output (SoFar (StandsFor first_start l.core) l.lines left list));
+  bytes : WhereLeft g.I.Source l.fn.input l.input (λ list left. WhereTaken g.O.Sink l.fn.output l.output (SoFar l.anchor (Stands l.shell) l.lines left list));
   taken : WhereLeft g.I.Source l.fn.input l.input (λ list left. length left + l.lines.taken ≡ length list);
   same_input : SameInput g.I.Source l.fn.input l.input;
   within : l.lines.taken ≤ INPUT_LIMIT;
