@@ -1,11 +1,11 @@
 #!/usr/bin/env bash
-# Runs the program on the lines of examples/network.events, once for each N of a range, with the Nth allocation failing,
-# and judges what it answered. It is no part of the gate.
+# Runs the program on the lines of an event list, once for each N of a range, with the Nth allocation failing, and judges
+# what it answered. It is no part of the gate.
 #
-#   tools/fail-alloc.sh [FIRST [LAST]]
+#   tools/fail-alloc.sh [LIST] [FIRST [LAST]]
 #
-# Without LAST it goes on to the last allocation that a run without a fault makes, and without FIRST it begins at the
-# first. Each run prints a line. As it must be:
+# Without LIST it takes examples/network.events. Without LAST it goes on to the last allocation that a run without a
+# fault makes, and without FIRST it begins at the first. Each run prints a line. As it must be:
 #
 #   as without a fault          the allocation wasn't needed
 #   line L found no memory      its reply is `refused 11 no memory`, and all others are those of a run without line L
@@ -18,14 +18,19 @@
 # malloc; a C compiler is needed for it, $CC or cc.
 set -uo pipefail
 
+top="$(cd "$(dirname "${BASH_SOURCE[0]}")/.." && pwd)"
+events="$top/examples/network.events"
+if [ -f "${1:-}" ]; then
+    events="$1"
+    shift
+fi
 first="${1:-1}" last="${2:-}"
 for number in "$first" "${last:-1}"; do
     if ! [[ "$number" =~ ^[1-9][0-9]*$ ]]; then
-        echo "usage: tools/fail-alloc.sh [FIRST [LAST]]" >&2
+        echo "usage: tools/fail-alloc.sh [LIST] [FIRST [LAST]]" >&2
         exit 2
     fi
 done
-top="$(cd "$(dirname "${BASH_SOURCE[0]}")/.." && pwd)"
 program="$top/crates/aeong/out/aeong"
 if [ ! -x "$program" ]; then
     echo "no $program: run 'bin/aeong events </dev/null' first" >&2
@@ -71,7 +76,7 @@ judge() {
     fi
 }
 
-grep -v '^#' "$top/examples/network.events" | grep -v '^[[:space:]]*$' >"$room/list"
+grep -v '^#' "$events" | grep -v '^[[:space:]]*$' >"$room/list"
 if ! try "$room/list" "$room/whole" COUNT_ALLOC=1; then
     cat "$room/whole.log" >&2
     exit 2
