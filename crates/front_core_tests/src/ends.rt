@@ -40,14 +40,6 @@ static IDS: [Row; 2] = [
 
 static PLACES: [Row; 1] = [(1024, Step::Begin, Told::Refused(Refused::TooMany))];
 
-fn event(step: Step) -> Event {
-    match step {
-        Step::Begin => Event::Begin,
-        Step::CreateVertex => Event::Write(Ask::CreateVertex),
-        Step::Commit => Event::Commit,
-    }
-}
-
 fn tell(answer: &Answer) -> Told {
     match answer {
         Answer::Begun(start) => Told::Instant(*start),
@@ -58,7 +50,12 @@ fn tell(answer: &Answer) -> Told {
 }
 
 fn answered(alloc: Global, core: &mut Core, caller: u64, step: Step) -> Told {
-    tell(&core.step(alloc, caller, event(step)))
+    let answer = match step {
+        Step::Begin => core.step(alloc, caller, Event::Begin),
+        Step::CreateVertex => core.step(alloc, caller, Event::Write(Ask::CreateVertex)),
+        Step::Commit => core.step(alloc, caller, Event::Commit),
+    };
+    tell(&answer)
 }
 
 /// Whether the store answers the rows so, one behind the other.
