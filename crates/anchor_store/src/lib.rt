@@ -5,7 +5,7 @@
 //!   its anchor; a block that is smaller than the interval is filled up first.
 //! - `Block::rebuild` gives the object at an instant from one block, and counts each delta that it applies: exactly those
 //!   that are later than the instant, and so never more than the block has.
-//! - `finish` does that for what was found, and applies nothing where the object is ready.
+//! - `finish` does that for what was found, and applies nothing where the object is ready; `finished` doesn't tell the count.
 #![tactic(auto)]
 
 mod block;
@@ -18,7 +18,7 @@ mod tests;
 
 pub use block::Block;
 pub use building::build;
-pub use found::{Found, finish};
+pub use found::{Found, finish, finished};
 use std::alloc::AllocError;
 
 /// Memory was wanting. No contract says when this answer comes.

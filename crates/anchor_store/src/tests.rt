@@ -1,7 +1,7 @@
 ghost use Rattle.std.specs.Prelude.{◌≡◌, ◌<◌, IfOk};
 ghost use Rattle.anchor_store.specs.Groups.{AreDescending};
 
-use crate::{Block, Found, NoMemory, build, finish};
+use crate::{Block, Found, NoMemory, build, finished};
 use std::alloc::Global;
 use std::marker::Brand;
 use std::process::Abort;
@@ -116,16 +116,6 @@ fn a_smaller_block_is_filled_up(rt: HostRuntime) -> Result<(), Fail> {
     Ok(())
 }
 
-/// Finishes what was found.
-fn finished<L: Ledger>(alloc: Global, blank: Blank, found: Found<Digits>) -> Result<u64, NoMemory>
-    requires name { blank.name ≡ L.name }
-    requires parts { blank.parts ≡ L.parts }
-    requires some { 0 < L.parts }
-{
-    let mut steps = Steps::<L>::open(blank);
-    finish(alloc, found, &mut steps)
-}
-
 #[test]
 fn a_block_has_its_instants(rt: HostRuntime) -> Result<(), Fail> {
     let alloc = rt.alloc();
@@ -143,10 +133,10 @@ fn a_block_has_its_instants(rt: HostRuntime) -> Result<(), Fail> {
     ];
     for (t, wanted) in rows {
         let found = Found::InBlock(Arc::try_clone(&built[0])?, t);
-        let object = finished::<Brand>(alloc, Blank::new(1), found)?;
+        let object = finished(alloc, found)?;
         assert_eq!(rt; object, wanted, "at {t}");
     }
-    let ready = finished::<Brand>(alloc, Blank::new(1), Found::Ready(7))?;
+    let ready = finished::<Digits>(alloc, Found::Ready(7))?;
     assert_eq!(rt; ready, 7);
     Ok(())
 }

@@ -1,11 +1,12 @@
--- A reader over two lists stands for the graph of these, and reading leaves them.
+-- A reader over two lists stands for the graph of these, where it is coherent, and reading leaves them.
 use Rattle.std.proofs.Common.{◌≡◌, refl, ◌∙◌}
-use Rattle.graph_record.specs.Graph.{Graph}
+use Rattle.graph_record.specs.Graph.{Graph, IsCoherent}
 use Rattle.expr_eval_tests.specs.declared.counting.CountingReader.{CountingReader}
 
 pub record HasParts (r : CountingReader) (g : Graph) : Type 0 where
   pub vertices : g.vertices ≡ r.vertices
   pub edges : g.edges ≡ r.edges
+  pub coherent : IsCoherent g
 
 pub record SameParts (old new : CountingReader) : Type 0 where
   pub vertices : new.vertices ≡ old.vertices

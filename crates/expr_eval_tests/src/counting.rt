@@ -85,6 +85,8 @@ impl GraphRead for CountingReader {
 
     ghost onward = { same_onward };
 
+    ghost coherent = { λ r g s. s.coherent };
+
     fn next_vertex(&mut self, after: Option<VertexId>) -> Result<Option<VertexId>, NoMemory> {
         self.ask()?;
         Ok(self.above(after))

@@ -14,7 +14,7 @@ mod Expired
 mod Lifting
 mod Left
 mod Fitting
-mod Stepping
+pub mod Stepping
 mod Ending
 mod Passing
 mod Touched

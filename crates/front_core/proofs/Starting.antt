@@ -25,7 +25,7 @@ use Rattle.world_model.proofs.Carried.{carried-append, pieces_right}
 use Rattle.front_core.specs.Books.{Book}
 use Rattle.world_model.specs.declared.event.Event.TheVariants.{Install}
 use Rattle.world_model.specs.Pieces.{PieceParts}
-use Rattle.front_core.specs.Keeps.{Keeps, FitsRow, FitsSome, IsOfSome, StandsFor, KeepsSome, Obeys, ObeysAll, ObeysWith}
+use Rattle.front_core.specs.Keeps.{Keeps, FitsRow, FitsSome, IsOfSome, StandsFor, StandsForSome, KeepsSome, Obeys, ObeysAll, ObeysWith}
 use Rattle.front_core.specs.Objects.{row_at}
 use Rattle.front_core.specs.Rows.{ObjectRow, no_row}
 use Rattle.front_core.specs.Tables.{Numbered, row_of}
@@ -124,8 +124,8 @@ fits_event old new c e r some obeys = answer_replies some.0 c e r (obeys some.0 
 pub fits_some : (s : State) (piece : PieceParts) → IsOfSome s piece → FitsSome s piece
 fits_some s piece m = record {
   world = run (start_world m.start) m.entries;
-  keeps = m.stands.keeps;
-  right = pieces_right m.start m.entries piece m.stands.start m.stands.legal m.of;
+  keeps = m.stood.keeps;
+  right = pieces_right m.start m.entries piece m.stood.start m.stood.legal m.of;
 }
 
 -- of each history that has the piece
@@ -137,3 +137,22 @@ stands_with s old new es c piece r of obeys stands = stands_for s old new es (re
 
 pub fits_with : (old new : State) (c : ℕ) (piece : PieceParts) (r : Reply) → FitsSome old piece → ObeysWith piece old new (record { caller = c; event = Install piece; reply = r }) → IsReplyTo (Install piece) r
 fits_with old new c piece r some obeys = answer_replies some.world c (Install piece) r (obeys some.world some.keeps some.right).answered
+
+-- ---- some history is stood for at all times
+
+abbrev pub keeps_some : (s : State) → StandsForSome s → KeepsSome s
+keeps_some s some = (run (start_world some.start) some.entries, some.stood.keeps)
+
+pub some_after : (old new : State) (c : ℕ) (e : Event) (r : Reply) → (some : StandsForSome old) → MayStand some.entries e → ObeysAll old new (record { caller = c; event = e; reply = r }) → StandsForSome new
+some_after old new c e r some may obeys = record {
+  start = some.start;
+  entries = some.entries ++ record { caller = c; event = e; reply = r } ∷ [];
+  stood = stands_all some.start old new some.entries (record { caller = c; event = e; reply = r }) may obeys some.stood;
+}
+
+pub some_with : (old new : State) (c : ℕ) (piece : PieceParts) (r : Reply) → (some : IsOfSome old piece) → ObeysWith piece old new (record { caller = c; event = Install piece; reply = r }) → StandsForSome new
+some_with old new c piece r some obeys = record {
+  start = some.start;
+  entries = some.entries ++ record { caller = c; event = Install piece; reply = r } ∷ [];
+  stood = stands_with some.start old new some.entries c piece r some.of obeys some.stood;
+}

@@ -29,7 +29,7 @@ use Rattle.world_model.proofs.Lists.{start_of-map, start_of-none}
 use Rattle.front_core.specs.Books.{Book, find_txn, place_in, running_of}
 use Rattle.world_model.specs.Placement.{blocks_of}
 use Rattle.front_core.specs.Histories.{history_at}
-use Rattle.front_core.specs.Keeps.{Keeps, Obeys}
+use Rattle.front_core.specs.Keeps.{Keeps, Obeys, open_in}
 use Rattle.front_core.specs.Objects.{row_at}
 use Rattle.front_core.specs.Opened.{Opened}
 use Rattle.front_core.specs.Outlines.{outline_of}
@@ -107,6 +107,14 @@ open_at s w c place t keeps placed at = by_found (txn_of w c) refl
         none_some : ◌≡◌ {A = Option ℕ} None (Some t.start) → ⊥
         none_some h = cc
     by_found (Some p) e = (p, record { keeps = keeps; found = e; began = some_same (sym (start_of-map w.running c p e) ∙ in_world) })
+
+-- the caller's transaction is open in the world with the same start
+pub open_is : (s : State) (w : World) (c : ℕ) → Keeps s w → option_map (λ (p : Txn). p.start) (txn_of w c) ≡ open_in s c
+open_is s w c keeps = by_found (txn_of w c) refl ∙ starts s w c keeps
+  where
+    by_found : (o : Option Txn) → txn_of w c ≡ o → option_map (λ (p : Txn). p.start) (txn_of w c) ≡ start_of (transactions_of w).running c
+    by_found None e = ap (option_map (λ (p : Txn). p.start)) e ∙ sym (start_of-none w.running c e)
+    by_found (Some p) e = ap (option_map (λ (p : Txn). p.start)) e ∙ sym (start_of-map w.running c p e)
 
 -- the caller's transaction, with what is kept of it
 pub open_of : (s : State) (w : World) (c place : ℕ) → Keeps s w → place_in s.transactions.txns c ≡ Some place → (t : Transaction) × (p : Txn) × Opened s w c t.start p × (find_txn s.transactions.txns c ≡ Some t)

@@ -1,5 +1,5 @@
 -- What the store keeps of a world.
-use Rattle.std.specs.Prelude.{◌≡◌, ℕ, ◌+◌, ◌≤◌, List, [], sum_by, ◌∷◌, ◌++◌, Option, Some, None, Bool, true, false, map}
+use Rattle.std.specs.Prelude.{◌≡◌, ℕ, ◌+◌, ◌≤◌, List, [], sum_by, ◌∷◌, ◌++◌, Option, Some, None, Bool, true, false, map, option_map}
 use Rattle.std.specs.List.{list_any}
 use Rattle.graph_value.specs.declared.id.Oid.{Oid}
 use Rattle.graph_record.specs.Graph.{object_at}
@@ -16,7 +16,8 @@ use Rattle.world_model.specs.Pieces.{PieceParts}
 use Rattle.world_model.specs.Placement.{chain as chain_of, blocks_of, IsRight}
 use Rattle.world_model.specs.Counts.{all_left}
 use Rattle.world_model.specs.Undo.{open_list}
-use Rattle.world_model.specs.History.{Entry, run, IsAnswered, world_after, IsLegal, IsStart, IsPieceOf}
+use Rattle.world_model.specs.History.{Entry, run, IsAnswered, world_after, IsLegal, IsStart}
+use Rattle.world_model.specs.Sending as for_some
 use Rattle.front_core.specs.Rows.{ObjectRow}
 use Rattle.front_core.specs.Tables.{next_of}
 use Rattle.front_core.specs.Objects.{row_at}
@@ -109,9 +110,21 @@ pub record StandsFor (b : Start) (s : State) (es : List Entry) : Type 0 where
   pub legal : IsLegal b es
   pub keeps : Keeps s (run (start_world b) es)
 
--- the numbers that an empty store begins with, whose blocks hold so many deltas
+-- some history is one that the core stands for
+abbrev pub StandsForSome : State → Type 0
+StandsForSome s = for_some.StandsForSome (λ k b es. StandsFor b k es) s
+
+-- the numbers that a store begins with
+abbrev pub numbers : ℕ → ℕ → ℕ → ℕ → Start
+numbers interval clock vertices edges = record { interval = interval; clock = clock; vertices = vertices; edges = edges }
+
+-- those of an empty store, whose blocks hold so many deltas
 abbrev pub first_start : ℕ → Start
-first_start interval = record { interval = interval; clock = 1; vertices = 0; edges = 0 }
+first_start interval = numbers interval 1 0 0
+
+-- the start of a caller's open transaction
+abbrev pub open_in : State → ℕ → Option ℕ
+open_in s caller = option_map (λ t. t.start) (find_txn s.transactions.txns caller)
 
 -- ONE STEP
 
@@ -137,11 +150,8 @@ pub record FitsSome (s : State) (piece : PieceParts) : Type 0 where
   pub right : IsRight world piece
 
 -- the piece was built of what some history that the core stands for lifted
-pub record IsOfSome (s : State) (piece : PieceParts) : Type 0 where
-  pub start : Start
-  pub entries : List Entry
-  pub stands : StandsFor start s entries
-  pub of : IsPieceOf entries piece
+abbrev pub IsOfSome : State → PieceParts → Type 0
+IsOfSome s piece = for_some.IsOfSome (λ k b es. StandsFor b k es) s piece
 
 -- what a piece is installed of; all other events may be asked at all times
 abbrev pub MayAsk : State → Event → Type 0

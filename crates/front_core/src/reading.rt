@@ -14,14 +14,11 @@ use crate::NoMemory;
 use crate::outline::Outline;
 use crate::row::Row;
 use crate::state::State;
-use anchor_store::{Found, finish};
+use anchor_store::{Found, finished};
 use graph_record::Object;
 use graph_value::{EdgeId, Oid, VertexId};
 use std::alloc::Global;
-use std::marker::Brand;
-use std::sync::ledger::{Blank, Ledger};
 use undo_delta::GraphUndo;
-use undo_law::Steps;
 use world_model::{Answer, Event, Kind, Refused, When};
 
 impl State {
@@ -74,7 +71,7 @@ impl State {
             When::Own => self.seen(alloc, caller, start, x),
             When::At(t) => {
                 let found = self.at_instant(alloc, x, t)?;
-                finished::<Brand>(alloc, Blank::new(1), found)
+                finished(alloc, found)
             }
         }
     }
@@ -164,21 +161,6 @@ impl State {
         }
         None
     }
-}
-
-/// Rebuilds what was found from its block, if it isn't ready.
-fn finished<L: Ledger>(
-    alloc: Global,
-    blank: Blank,
-    found: Found<GraphUndo>,
-) -> Result<Object, NoMemory>
-    requires name { blank.name ≡ L.name }
-    requires parts { blank.parts ≡ L.parts }
-    requires some { 0 < L.parts }
-    ensures { IfOk result (λ object. object ≡ found_object after found) }
-{
-    let mut steps = Steps::<L>::open(blank);
-    finish(alloc, found, &mut steps)
 }
 
 /// The first number of a row that is above the given one, `None` where that is past the last row.

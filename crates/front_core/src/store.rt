@@ -16,15 +16,16 @@ use std::marker::Model;
 use txn_manager::CLOCK_END;
 use world_model::{Answer, Event, ID_END};
 
-/// The store as one state, which callers change step by step. What it keeps is at all times that of some world: a list
-/// of commits and open transactions, from which the objects, their deltas and their writers follow.
+/// The store as one state, which callers change step by step. At all times it stands for some legal history: what it
+/// keeps is the world that this comes to, a list of commits and open transactions, from which the objects, their deltas
+/// and their writers follow.
 #[derive(Drop)]
 pub struct Core {
     state: State,
 }
 
 impl Model for Core {
-    ghost use Rattle.front_core.specs.Keeps.{KeepsSome};
+    ghost use Rattle.front_core.specs.Keeps.{StandsForSome};
     ghost use Rattle.front_core.specs.declared.state.State.{State as AnyState};
     ghost use Rattle.graph_value.specs.contracts.value.Value as property_value;
     ghost use Rattle.std.specs.Coded.{codes};
@@ -35,11 +36,11 @@ impl Model for Core {
 
     ghost view = { λ c. c.state };
 
-    ghost invariant = { λ c. KeepsSome c.state };
+    ghost invariant = { λ c. StandsForSome c.state };
 }
 
 impl Core {
-    ghost use Rattle.front_core.specs.Keeps.{MayAsk, StandsFor, first_start};
+    ghost use Rattle.front_core.specs.Keeps.{MayAsk, StandsFor, StandsForSome, first_start, numbers};
 
     /// A store in which nothing has happened. `k` is how many deltas a block of history holds, from 1 to 1,024.
     pub fn new(alloc: Global, k: u64) -> Result<Core, NoMemory>
@@ -65,8 +66,7 @@ impl Core {
         requires clock_range { clock ≤ CLOCK_END }
         requires vertex_range { vertices ≤ ID_END }
         requires edge_range { edges ≤ ID_END }
-        ensures { IfOk result (λ core.
-            StandsFor (record { interval = k; clock = clock; vertices = vertices; edges = edges }) core []) }
+        ensures { IfOk result (λ core. StandsFor (numbers k clock vertices edges) core []) }
     {
         Ok(Core {
             state: State {
@@ -87,8 +87,8 @@ impl Core {
     /// Answers a caller's event.
     ///
     /// For every legal history that the core stands for, the answer is the one that the history's world gives, or
-    /// `NoMemory` where nothing else is refused and the event is no commit, no abort and no mark; afterwards the core
-    /// stands for the history with this entry. A refusal leaves the same world.
+    /// `NoMemory` where nothing else is refused and the event is no commit, no abort, no mark and no count; afterwards the
+    /// core stands for the history with this entry. A refusal leaves the same world.
     ///
     /// A piece that is installed was built of what some history that the core stands for lifted.
     pub fn step(&mut self, alloc: Global, caller: u64, event: Event) -> Answer
@@ -99,9 +99,11 @@ impl Core {
         ensures stands { (s : Start) (es : List Entry) → StandsFor s self.old es → MayStand es event →
             StandsFor s self.new
             (es ++ record { caller = caller; event = event; reply = reply_of result } ∷ []) }
+        // At all times some history is stood for.
+        ensures some { StandsForSome self.old }
         // A piece that found no memory comes back.
         ensures hands_back { HandsBack event result }
-        // A version is answered to a read alone, and is of the kind that the read named; a number to a search alone.
+        // Each event is answered in its own kind; a version is of the kind that the read named.
         ensures fits { IsReplyTo event (reply_of result) }
     {
         match event {

@@ -1,5 +1,5 @@
 ghost use Rattle.std.specs.Prelude.{◌≡◌, IfOk};
-ghost use Rattle.graph_record.specs.Graph.{Graph};
+ghost use Rattle.graph_record.specs.Graph.{Graph, IsCoherent};
 ghost use Rattle.graph_record.specs.Alive.{vertex_in, edge_in, next_vertex_in};
 ghost use Rattle.graph_record.specs.Reading.{Reads};
 
@@ -36,4 +36,7 @@ pub trait GraphRead {
 
     /// What follows a state that follows an earlier one follows that one too.
     ghost onward: { (a b c : Self) → follows a b → follows b c → follows a c };
+
+    /// Each graph that a reader stands for is coherent.
+    ghost coherent: { (r : Self) (g : Graph) → stands r g → IsCoherent g };
 }

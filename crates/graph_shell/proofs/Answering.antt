@@ -442,6 +442,6 @@ pub is_of_some : (s : ShellParts) (past : Past) (caller : ℕ) (x : Oid) (piece 
 is_of_some s past caller x piece st took = record {
   start = past.start;
   entries = past.es;
-  stands = st.store;
+  stood = st.store;
   of = st.pieces caller x piece (ap (λ (p : Pieces). p caller x) (sym st.same) ∙ took);
 }

@@ -3,7 +3,6 @@
 
 mod answer;
 mod command;
-mod finished;
 mod kept;
 mod program;
 mod reply;

@@ -3,8 +3,7 @@ ghost use Rattle.anchor_store.specs.Found.{found_object};
 ghost use Rattle.graph_shell.specs.Told.{VersionIsTold, wanting};
 ghost use Rattle.undo_delta.specs.Apply.{after};
 
-use crate::finished::finished;
-use anchor_store::Found;
+use anchor_store::{Found, finished};
 use graph_record::Object;
 use graph_value::Oid;
 use std::alloc::Global;

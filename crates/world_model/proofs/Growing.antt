@@ -162,7 +162,7 @@ none_up_to t n (c ∷ cs) below h =
     let fails : nat_le c.ts t ≡ false = grind (arith, nat_tests) in
     ap (λ b. cond b (c ∷ filter (λ c. nat_le c.ts t) cs) (filter (λ c. nat_le c.ts t) cs)) fails ∙ none_up_to t n cs below (and_right_true _ _ h)
 
-instant_grown : (w v : World) → Grown w v → (t : ℕ) → t < w.clock → graph_at v.commits t ≡ graph_at w.commits t
+pub instant_grown : (w v : World) → Grown w v → (t : ℕ) → t < w.clock → graph_at v.commits t ≡ graph_at w.commits t
 instant_grown w v g t below =
     ap (λ cs. fold_of (filter (λ c. nat_le c.ts t) cs)) g.commits
     ∙ ap fold_of (filter-append (λ c. nat_le c.ts t) w.commits g.more

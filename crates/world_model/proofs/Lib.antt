@@ -29,6 +29,9 @@ pub mod OpenUndo
 pub mod Sums
 pub mod Counted
 pub mod Copies
+pub mod Staying
+pub mod Opened
+pub mod Sent
 mod Worked
 mod Network
 mod WorkedGraphs

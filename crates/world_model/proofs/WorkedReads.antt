@@ -1,5 +1,5 @@
 -- The definitions of reads, searches, aborts and marks, computed on the networks.
-use Rattle.std.proofs.Common.{◌≡◌, ◌≤◌, List, ℕ, [], ◌∷◌, Option, Some, None, false, true, codes, refl, arith}
+use Rattle.std.proofs.Common.{◌≡◌, ◌≤◌, ◌⊎◌, List, ℕ, [], ◌∷◌, Option, Some, None, false, true, codes, refl, arith, inl, inr}
 use Rattle.graph_value.specs.declared.id.EdgeId.{EdgeId}
 use Rattle.graph_value.specs.declared.id.Oid.TheVariants as oid
 use Rattle.graph_record.specs.declared.object.Object.{Object}
@@ -168,22 +168,36 @@ not_ahead = refl
 -- ---- which answers belong to which events
 
 no_number_at_a_read : IsReplyTo (event.Read (oid.Vertex v0) Own) (reply.Id None) → ⊥
-no_number_at_a_read h = h
+no_number_at_a_read h = h.told
 
 no_number_at_a_mark : IsReplyTo event.Mark (reply.Id None) → ⊥
-no_number_at_a_mark h = h
+no_number_at_a_mark h = h.told
 
 no_number_at_an_abort : IsReplyTo event.Abort (reply.Id None) → ⊥
-no_number_at_an_abort h = h
+no_number_at_an_abort h = h.told
 
 no_number_at_a_write : IsReplyTo (event.Write CreateVertex) (reply.Id None) → ⊥
-no_number_at_a_write h = h
+no_number_at_a_write h = h.told
 
 no_version_at_an_abort : IsReplyTo event.Abort (reply.Version object.Dead) → ⊥
-no_version_at_an_abort h = h
+no_version_at_an_abort h = h.told
 
 no_version_at_a_mark : IsReplyTo event.Mark (reply.Version object.Dead) → ⊥
-no_version_at_a_mark h = h
+no_version_at_a_mark h = h.told
 
 no_version_at_a_search : IsReplyTo (event.Next kind.Vertex None Own) (reply.Version object.Dead) → ⊥
-no_version_at_a_search h = h
+no_version_at_a_search h = h.told
+
+-- a mark is never refused, and nothing is answered in another event's kind
+no_refusal_at_a_mark : IsReplyTo event.Mark (reply.Refused refused.NoTxn) → ⊥
+no_refusal_at_a_mark h = other h.kind.1
+  where
+    other : {marked : _} → reply.Refused refused.NoTxn ≡ reply.Marked marked → ⊥
+    other e = cc
+
+no_commit_at_an_abort : IsReplyTo event.Abort (reply.Committed 1) → ⊥
+no_commit_at_an_abort h = either h.kind
+  where
+    either : (((why : _) × (reply.Committed 1 ≡ reply.Refused why)) ⊎ (reply.Committed 1 ≡ reply.Aborted)) → ⊥
+    either (inl refusal) = let e : reply.Committed 1 ≡ reply.Refused refusal.0 = refusal.1 in cc
+    either (inr e) = cc

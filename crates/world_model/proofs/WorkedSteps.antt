@@ -200,4 +200,4 @@ unfolding find_txn are_touching touched_after
 not_unseen o = let free : true ≡ false = o.unrivalled 1 _ refl (oid.Vertex v0) refl in cc
 
 no_version_at_a_begin : IsReplyTo event.Begin (reply.Version Dead) → ⊥
-no_version_at_a_begin h = h
+no_version_at_a_begin h = h.told

@@ -12,3 +12,4 @@ pub mod Pieces
 pub mod Reply
 pub mod Placement
 pub mod Counts
+pub mod Sending

@@ -1,5 +1,5 @@
 -- Which answers belong to which events.
-use Rattle.std.specs.Prelude.{◌≡◌, ◌≢◌}
+use Rattle.std.specs.Prelude.{◌≡◌, ◌≢◌, ◌⊎◌, ℕ, Option}
 use Rattle.graph_value.specs.declared.id.Oid.{Oid}
 use Rattle.graph_record.specs.declared.object.Object.{Object}
 use Rattle.graph_record.specs.declared.object.Object.TheVariants.{Dead, Vertex, Edge}
@@ -10,8 +10,12 @@ use Rattle.world_model.specs.declared.event.Asked.{Asked}
 use Rattle.world_model.specs.declared.event.Asked.TheVariants as asked
 use Rattle.world_model.specs.declared.event.Event.{Event}
 use Rattle.world_model.specs.declared.event.Event.TheVariants as event
+use Rattle.world_model.specs.declared.answer.Marked.{Marked}
+use Rattle.world_model.specs.declared.answer.Refused.{Refused}
 use Rattle.world_model.specs.declared.answer.Refused.TheVariants.{NoMemory}
-use Rattle.world_model.specs.Pieces.{PieceParts}
+use Rattle.world_model.specs.declared.answer.Stats.{Stats}
+use Rattle.world_model.specs.declared.answer.Wrote.{Wrote}
+use Rattle.world_model.specs.Pieces.{LiftedParts, PieceParts}
 use Rattle.world_model.specs.Reply.{Reply}
 use Rattle.world_model.specs.Reply as reply
 
@@ -60,9 +64,28 @@ IsAnswerTo asked reply.Installed = Unit {0}
 IsAnswerTo asked (reply.Stats stats) = Unit {0}
 IsAnswerTo asked (reply.Refused why) = Unit {0}
 
--- a version is answered to a read alone, and a number to a search
-abbrev pub IsReplyTo : Event → Reply → Type 0
-IsReplyTo e a = IsAnswerTo (asked_by e) a
+-- why an event was refused
+abbrev pub IsRefusal : Reply → Type 0
+IsRefusal r = (why : Refused) × (r ≡ reply.Refused why)
+
+-- an answer of the event's own kind, or a refusal; a mark and a count are never refused
+abbrev pub IsOfEvent : Event → Reply → Type 0
+IsOfEvent event.Begin r = IsRefusal r ⊎ ((start : ℕ) × (r ≡ reply.Begun start))
+IsOfEvent (event.Next kind after when) r = IsRefusal r ⊎ ((id : Option ℕ) × (r ≡ reply.Id id))
+IsOfEvent (event.Read x when) r = IsRefusal r ⊎ ((o : Object) × (r ≡ reply.Version o))
+IsOfEvent (event.Write ask) r = IsRefusal r ⊎ ((wrote : Wrote) × (r ≡ reply.Wrote wrote))
+IsOfEvent event.Commit r = IsRefusal r ⊎ ((ts : ℕ) × (r ≡ reply.Committed ts))
+IsOfEvent event.Abort r = IsRefusal r ⊎ (r ≡ reply.Aborted)
+IsOfEvent event.Mark r = (marked : Marked) × (r ≡ reply.Marked marked)
+IsOfEvent (event.Lift x) r = IsRefusal r ⊎ ((lifted : LiftedParts) × (r ≡ reply.Lifted lifted))
+IsOfEvent (event.Install piece) r = IsRefusal r ⊎ (r ≡ reply.Installed)
+IsOfEvent event.Stats r = (stats : Stats) × (r ≡ reply.Stats stats)
+
+-- Each event is answered in its own kind; a version is of the object that was asked for, and a number is told where one
+-- was.
+pub record IsReplyTo (e : Event) (a : Reply) : Type 0 where
+  pub kind : IsOfEvent e a
+  pub told : IsAnswerTo (asked_by e) a
 
 -- An installation that finds no memory hands back the piece that it was sent.
 abbrev pub IsHandedBack : PieceParts → Answer → Type 0

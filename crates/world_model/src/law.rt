@@ -16,7 +16,9 @@ ghost use Rattle.world_model.specs.Counts.{all_left};
 ghost use Rattle.undo_law.specs.Undone.{undone};
 ghost use Rattle.undo_delta.specs.Apply.{after};
 ghost use Rattle.world_model.specs.declared.event.Kind.{Kind};
-ghost use Rattle.world_model.specs.Views.{IsNext, is_above, next_id, oid_of};
+ghost use Rattle.world_model.specs.declared.event.When.{When};
+ghost use Rattle.world_model.specs.Sending.{are_beside};
+ghost use Rattle.world_model.specs.Views.{IsNext, graph_of, is_above, next_id, oid_of, time_ahead};
 ghost use Rattle.world_model.specs.Undo.{open_list, undo_list, undone_above};
 ghost use Rattle.world_model.specs.Pieces.{PieceParts};
 ghost use Rattle.world_model.specs.Placement.{below, stats_of, sum_over, IsRight};
@@ -136,6 +138,16 @@ pub fn the_past_stays()
     ensures deltas { (s : Start) (es later : List Entry) (x : Oid) → IsStart s →
         below (mark (run (start_world s) es)) (undo_list (run (start_world s) (es ++ later)) x)
         ≡ below (mark (run (start_world s) es)) (undo_list (run (start_world s) es) x) }
+{}
+
+/// What a transaction sees, and the graph at each instant that it may ask for, stay while others act and its caller only
+/// reads.
+pub fn views_stay()
+    ensures { (s : Start) (es later : List Entry) (caller : ℕ) (p : Txn) (when : When) → IsStart s →
+        txn_of (run (start_world s) es) caller ≡ Some p → time_ahead p when ≡ None →
+        are_beside false caller later ≡ true →
+        graph_of (run (start_world s) (es ++ later)) p when
+        ≡ graph_of (run (start_world s) es) p when }
 {}
 
 /// Lifts, installs and counts leave no trace: a history that the store may have is one without them too, so no other

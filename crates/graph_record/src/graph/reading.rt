@@ -1,7 +1,7 @@
 //! A graph as a reader of itself.
 ghost use Rattle.std.specs.Prelude.{◌≡◌, IfOk, IfErr, refl, slice_get, option_map};
 ghost use Rattle.std.proofs.Common.{◌∙◌};
-ghost use Rattle.graph_record.specs.Graph.{vertex_cmp, edge_cmp};
+ghost use Rattle.graph_record.specs.Graph.{IsCoherent, vertex_cmp, edge_cmp};
 ghost use Rattle.graph_record.specs.Alive.{vertex_in, edge_in, next_vertex_in};
 ghost use Rattle.graph_record.specs.Place.{IsAt, IsGapFor, key_of};
 
@@ -81,13 +81,15 @@ impl Graph {
 
 /// Reading changes nothing.
 impl GraphRead for Graph {
-    ghost stands = { λ r g. r ≡ g };
+    ghost stands = { λ r g. (r ≡ g) × IsCoherent g };
 
     ghost follows = { λ a b. a ≡ b };
 
     ghost itself = { λ r. refl };
 
     ghost onward = { λ a b c h k. h ∙ k };
+
+    ghost coherent = { λ r g s. s.1 };
 
     fn next_vertex(&mut self, after: Option<VertexId>) -> Result<Option<VertexId>, NoMemory> {
         Ok(self.above(after))

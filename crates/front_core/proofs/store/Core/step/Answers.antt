@@ -7,18 +7,37 @@ use Rattle.world_model.specs.History.{Entry, IsAnswered, MayStand, run, world_af
 use Rattle.world_model.specs.Pieces.{PieceParts}
 use Rattle.world_model.specs.World.{start_world}
 use Rattle.world_model.specs.Replies.{HandsBack, IsReplyTo}
-use Rattle.front_core.specs.Keeps.{FitsSome, KeepsSome, MayAsk, ObeysAll, ObeysWith, StandsFor}
+use Rattle.front_core.specs.Keeps.{FitsSome, IsOfSome, KeepsSome, MayAsk, ObeysAll, ObeysWith, StandsFor}
 use Rattle.front_core.specs.declared.state.State.{State}
-use Rattle.front_core.proofs.Starting.{fits_event, fits_some, fits_with, obeys_with, stands_all, stands_with}
+use Rattle.front_core.proofs.Starting.{fits_event, fits_some, fits_with, keeps_some, obeys_with, some_after, some_with, stands_all, stands_with}
 use Rattle.front_core.proofs.store.Core.step.Goals as goal
 
 abbrev on : (k k' : State) (caller : ℕ) (reply : Reply) → Event → Type 0
 on k k' caller reply event = ObeysAll k k' (record { caller = caller; event = event; reply = reply })
 
+pub write-requires : goal.write-requires
+write-requires c = keeps_some _ c.self.invariant
+
+pub commit-requires : goal.commit-requires
+commit-requires c = keeps_some _ c.self.invariant
+
+pub abort-requires : goal.abort-requires
+abort-requires c = keeps_some _ c.self.invariant
+
+pub stats-requires : goal.stats-requires
+stats-requires c = keeps_some _ c.self.invariant
+
+pub invariant_of-self : goal.invariant_of-self
+invariant_of-self c = some_after _ _ c.args.caller Begin (reply_of c.begin.result) c.self.invariant tt c.begin.ensures
+
 pub invariant_of-self-in-Write : goal.invariant_of-self-in-Write
-invariant_of-self-in-Write c =
-    let w = c.self.invariant.0 in
-    (world_after w (record { caller = c.args.caller; event = Write c.in-Write.ask; reply = reply_of c.write.result }), (c.write.ensures w c.self.invariant.1).keeps)
+invariant_of-self-in-Write c = some_after _ _ c.args.caller (Write c.in-Write.ask) (reply_of c.write.result) c.self.invariant tt c.write.ensures
+
+pub invariant_of-self-in-Commit : goal.invariant_of-self-in-Commit
+invariant_of-self-in-Commit c = some_after _ _ c.args.caller Commit (reply_of c.commit.result) c.self.invariant tt c.commit.ensures
+
+pub invariant_of-self-in-Abort : goal.invariant_of-self-in-Abort
+invariant_of-self-in-Abort c = some_after _ _ c.args.caller Abort (reply_of c.abort.result) c.self.invariant tt c.abort.ensures
 
 pub returns-in-Begin-clause-stands : goal.returns-in-Begin-clause-stands
 returns-in-Begin-clause-stands c = λ s es st may.
@@ -65,10 +84,13 @@ some k piece e is may = fits_some k piece (subst (MayAsk k) is may)
 pub install-requires : goal.install-requires
 install-requires c = subst (λ (k : State). FitsSome k c.in-Install.piece) (sym c.self.view_is) (some c.args.self.now c.in-Install.piece c.args.event c.in-Install.is c.requires)
 
+of_some : (k : State) (piece : PieceParts) (e : Event) → e ≡ Install piece → MayAsk k e → IsOfSome k piece
+of_some k piece e is may = subst (MayAsk k) is may
+
 pub invariant_of-self-in-Install : goal.invariant_of-self-in-Install
 invariant_of-self-in-Install c =
-    let fits = subst (λ (k : State). FitsSome k c.in-Install.piece) (sym c.self.view_is) (some c.args.self.now c.in-Install.piece c.args.event c.in-Install.is c.requires) in
-    (world_after fits.world (record { caller = c.args.caller; event = Install c.in-Install.piece; reply = reply_of c.install.result }), (c.install.ensures.obeys fits.world fits.keeps fits.right).keeps)
+    let of = subst (λ (k : State). IsOfSome k c.in-Install.piece) (sym c.self.view_is) (of_some c.args.self.now c.in-Install.piece c.args.event c.in-Install.is c.requires) in
+    some_with _ _ c.args.caller c.in-Install.piece (reply_of c.install.result) of c.install.ensures.obeys
 
 pub returns-in-Install-clause-answered : goal.returns-in-Install-clause-answered
 returns-in-Install-clause-answered c = λ s es st may.
@@ -93,17 +115,17 @@ returns-in-Install-clause-hands_back c = subst (λ (e : Event). HandsBack e c.in
 
 pub returns-in-Next-clause-fits : goal.returns-in-Next-clause-fits
 returns-in-Next-clause-fits c =
-    fits_event c.args.self.now c.args.self.now c.args.caller c.args.event (reply_of c.next.result) (subst KeepsSome c.self.view_is c.self.invariant)
+    fits_event c.args.self.now c.args.self.now c.args.caller c.args.event (reply_of c.next.result) (subst KeepsSome c.self.view_is (keeps_some _ c.self.invariant))
     (subst (on c.args.self.now c.args.self.now c.args.caller (reply_of c.next.result)) (sym c.in-Next.is) (subst (λ (k : State). ObeysAll k k (record { caller = c.args.caller; event = Next c.in-Next.kind c.in-Next.after c.in-Next.when; reply = reply_of c.next.result })) c.self.view_is c.next.ensures))
 
 pub returns-in-Read-clause-fits : goal.returns-in-Read-clause-fits
 returns-in-Read-clause-fits c =
-    fits_event c.args.self.now c.args.self.now c.args.caller c.args.event (reply_of c.read.result) (subst KeepsSome c.self.view_is c.self.invariant)
+    fits_event c.args.self.now c.args.self.now c.args.caller c.args.event (reply_of c.read.result) (subst KeepsSome c.self.view_is (keeps_some _ c.self.invariant))
     (subst (on c.args.self.now c.args.self.now c.args.caller (reply_of c.read.result)) (sym c.in-Read.is) (subst (λ (k : State). ObeysAll k k (record { caller = c.args.caller; event = Read c.in-Read.x c.in-Read.when; reply = reply_of c.read.result })) c.self.view_is c.read.ensures))
 
 pub returns-in-Write-clause-fits : goal.returns-in-Write-clause-fits
 returns-in-Write-clause-fits c =
-    fits_event c.args.self.now c.write.new.self c.args.caller c.args.event (reply_of c.write.result) (subst KeepsSome c.self.view_is c.self.invariant)
+    fits_event c.args.self.now c.write.new.self c.args.caller c.args.event (reply_of c.write.result) (subst KeepsSome c.self.view_is (keeps_some _ c.self.invariant))
     (subst (on c.args.self.now c.write.new.self c.args.caller (reply_of c.write.result)) (sym c.in-Write.is) (subst (λ (k : State). ObeysAll k c.write.new.self (record { caller = c.args.caller; event = Write c.in-Write.ask; reply = reply_of c.write.result })) c.self.view_is c.write.ensures))
 
 pub returns-in-Begin-clause-hands_back : goal.returns-in-Begin-clause-hands_back
@@ -132,3 +154,8 @@ returns-in-Lift-clause-hands_back c = subst (λ (e : Event). HandsBack e c.lift.
 
 pub returns-in-Stats-clause-hands_back : goal.returns-in-Stats-clause-hands_back
 returns-in-Stats-clause-hands_back c = subst (λ (e : Event). HandsBack e c.stats.result) (sym c.in-Stats.is) tt
+
+pub returns-in-Lift-clause-fits : goal.returns-in-Lift-clause-fits
+returns-in-Lift-clause-fits c =
+    fits_event c.args.self.now c.args.self.now c.args.caller c.args.event (reply_of c.lift.result) (subst KeepsSome c.self.view_is (keeps_some _ c.self.invariant))
+    (subst (on c.args.self.now c.args.self.now c.args.caller (reply_of c.lift.result)) (sym c.in-Lift.is) (subst (λ (k : State). ObeysAll k k (record { caller = c.args.caller; event = Lift c.in-Lift.x; reply = reply_of c.lift.result })) c.self.view_is c.lift.ensures))

@@ -80,5 +80,5 @@ returns-in_default-step c =
       answers = λ past st. tells_taken (shell_of c.self.inside.core c.self.inside.kept.places.entries) (shell_of c.step.new.self c.take.new.self.places.entries) c.args.caller c.args.x c.in-Some.piece (reply_of c.step.result) (told.Answer c.step.result)
           (sym c.take.ensures.piece ∙ c.in-Some.is) c.step.ensures.answered c.step.ensures.stands (left_text c.args.x c.in-Some.piece c.step.result left)
           (c.take.ensures.kept ∙ sym (ap (λ b. cond b before (keeping c.args.caller c.args.x None before)) (left_memory c.in-Some.piece c.step.result left c.step.ensures.hands_back))) past (subst (λ (s : ShellParts). Stands s past) (sym c.self.view_is) st);
-      fits = plain_nothing c.step.result c.step.ensures.fits;
+      fits = plain_nothing c.step.result c.step.ensures.fits.told;
     }

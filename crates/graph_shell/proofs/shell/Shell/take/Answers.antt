@@ -69,5 +69,5 @@ returns-in_default c = record {
       let may = may_stand past.es c.args.event c.requires in
       tells_other (shell_of c.self.inside.core c.self.inside.kept.places.entries) (shell_of c.step.new.self c.self.inside.kept.places.entries) c.args.caller c.args.event c.step.result past (is_other c.step.result c.in_default.not-Lifted) st
       (c.step.ensures.answered past.start past.es st.store may) (c.step.ensures.stands past.start past.es st.store may) refl;
-  fits = plain_other (asked_by c.args.event) c.step.result c.in_default.not-Version c.step.ensures.fits;
+  fits = plain_other (asked_by c.args.event) c.step.result c.in_default.not-Version c.step.ensures.fits.told;
 }

@@ -1,0 +1,28 @@
+use Rattle.std.proofs.Common.{refl}
+use Rattle.world_model.specs.declared.event.Event.TheVariants as event
+use Rattle.world_model.specs.Reply as reply
+use Rattle.world_model.specs.Reply.{reply_of}
+use Rattle.store_pass.proofs.Alone.{open_stays, retold, sends}
+use Rattle.store_pass.proofs.Refusals.{number_or_refusal}
+use Rattle.store_pass.proofs.solo.SoloGraphStore.next.Goals as goal
+
+pub refusal-requires : goal.refusal-requires
+refusal-requires c = number_or_refusal c.step.result c.in_default.not-Id c.step.ensures.fits.kind
+
+pub returns-in-Id-clause-sends : goal.returns-in-Id-clause-sends
+returns-in-Id-clause-sends c = sends c.args.self.now _ (event.Next c.args.kind c.args.after c.args.when) (reply.Id c.in-Id.id) refl c.in-Id.ensures.some c.in-Id.ensures.stands
+
+pub returns-in-Id-clause-stays : goal.returns-in-Id-clause-stays
+returns-in-Id-clause-stays c =
+    let some = c.in-Id.ensures.some in
+    open_stays some.start c.args.self.now.core.now c.step.new.self some.entries c.args.self.now.caller (event.Next c.args.kind c.args.after c.args.when) (reply.Id c.in-Id.id) some.stood (c.in-Id.ensures.stands some.start some.entries some.stood tt) refl
+
+pub returns-in_default-clause-sends : goal.returns-in_default-clause-sends
+returns-in_default-clause-sends c =
+    sends c.args.self.now _ (event.Next c.args.kind c.args.after c.args.when) (reply.Refused c.refusal.result) refl c.step.ensures.some
+    (retold c.args.self.now.core.now c.step.new.self c.args.self.now.caller (event.Next c.args.kind c.args.after c.args.when) (reply_of c.step.result) (reply.Refused c.refusal.result) c.refusal.ensures c.step.ensures.stands)
+
+pub returns-in_default-clause-stays : goal.returns-in_default-clause-stays
+returns-in_default-clause-stays c =
+    let some = c.step.ensures.some in
+    open_stays some.start c.args.self.now.core.now c.step.new.self some.entries c.args.self.now.caller (event.Next c.args.kind c.args.after c.args.when) (reply_of c.step.result) some.stood (c.step.ensures.stands some.start some.entries some.stood tt) refl

@@ -1,0 +1,9 @@
+pub mod Over
+pub mod Targets
+pub mod Writing
+pub mod Setting
+pub mod Placing
+pub mod Creating
+pub mod Deleting
+pub mod Planning
+pub mod Earlier
