@@ -1,0 +1,5 @@
+//! Clauses that write on a small graph, and their plans.
+#![tactic(auto)]
+
+#[cfg(test)]
+mod tests;
