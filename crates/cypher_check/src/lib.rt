@@ -15,3 +15,6 @@ pub use checked::Checked;
 pub use checking::check;
 pub use laws::{names_are_distinct, names_stand};
 pub use refused::CheckRefused;
+pub use same::same_exprs;
+pub use walk::projections::{given_name, is_closed};
+pub use walk::reads::has_aggregate;

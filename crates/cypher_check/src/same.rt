@@ -46,7 +46,7 @@ fn names_same(a: &[Name], b: &[Name]) -> bool
 
 /// Whether two expressions are the same, part by part.
 #[cycle(same)]
-pub(crate) fn same_exprs(a: &Expr, b: &Expr) -> bool
+pub fn same_exprs(a: &Expr, b: &Expr) -> bool
     ensures { result ≡ same_expr a.now b.now }
 {
     match (a, b) {

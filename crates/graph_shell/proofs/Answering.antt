@@ -28,16 +28,16 @@ use Rattle.world_model.proofs.Folds.{and_left_true, and_right_true, same_id}
 use Rattle.world_model.proofs.Histories.{run-append}
 use Rattle.front_core.specs.Keeps.{IsOfSome, MayAsk, StandsFor}
 use Rattle.front_core.specs.declared.state.State.{State}
-use Rattle.graph_shell.specs.declared.request.Request.{Request}
-use Rattle.graph_shell.specs.declared.request.Wish.{Wish}
-use Rattle.graph_shell.specs.declared.request.Wish.TheVariants as wish
-use Rattle.graph_shell.specs.Request.{request_of, is_skipped}
-use Rattle.graph_shell.specs.Reply.{answer_text, caller_text, reply_text, piece_text, no_piece}
-use Rattle.graph_shell.specs.declared.told.Told.{Told}
-use Rattle.graph_shell.specs.declared.told.Told.TheVariants as told
-use Rattle.graph_shell.specs.Told.{IsPlain, IsWithoutPiece, LiftIsTold, VersionIsTold, told_text}
+use Rattle.event_lines.specs.declared.request.Request.{Request}
+use Rattle.event_lines.specs.declared.request.Wish.{Wish}
+use Rattle.event_lines.specs.declared.request.Wish.TheVariants as wish
+use Rattle.event_lines.specs.Request.{request_of, is_skipped}
+use Rattle.event_lines.specs.Reply.{answer_text, caller_text, reply_text, piece_text, no_piece}
+use Rattle.event_lines.specs.declared.told.Told.{Told}
+use Rattle.event_lines.specs.declared.told.Told.TheVariants as told
+use Rattle.event_lines.specs.Told.{IsPlain, IsWithoutPiece, VersionIsTold, told_text}
 use Rattle.graph_shell.specs.Kept.{pieces_in}
-use Rattle.graph_shell.specs.Pieces.{Pieces, keeping}
+use Rattle.graph_shell.specs.Pieces.{LiftIsTold, Pieces, keeping}
 use Rattle.graph_shell.specs.Events.{Kept, Answered, answer_short, answer_request, answer_wish, answer_piece, answer_install, reply_to, entry_of, pieces_after}
 use Rattle.graph_shell.specs.Stands.{AnswersLine, Past, ShellParts, Stands, left_by}
 

@@ -6,7 +6,7 @@ use Rattle.wire_line.specs.declared.line.LineSpan.{LineSpan}
 use Rattle.wire_line.specs.declared.line.TheConstants.{LINE_LIMIT}
 use Rattle.wire_line.specs.Intake.{Intake, IsFirstLine, IsTooLong}
 use Rattle.wire_line.specs.Lines.{first_line, without_return}
-use Rattle.graph_shell.specs.Reply.{bad_line}
+use Rattle.event_lines.specs.Reply.{bad_line}
 use Rattle.graph_shell.specs.Events.{Kept, Answered, answer_line, answer_short}
 use Rattle.graph_shell.specs.Stands.{AnswersLine, Past, left_by}
 use Rattle.graph_shell.specs.Runs.{AnswersNext}

@@ -18,10 +18,10 @@ use Rattle.world_model.specs.Op.{apply_all, are_touching}
 use Rattle.world_model.specs.Step.{with_op, effect_step}
 use Rattle.world_model.specs.World.{World, find_txn, other_writer, newest_touch, ops_of, before}
 use Rattle.wire_line.specs.Lines.{lines_of}
-use Rattle.graph_shell.specs.Reply.{reply_text}
-use Rattle.graph_shell.specs.Words.{number_below, name_of, oid_of}
-use Rattle.graph_shell.specs.Values.{json_value}
-use Rattle.graph_shell.specs.Request.{request_of, words_event, plain_event, worded_event, read_event, when_of, set_event, property_event}
+use Rattle.event_lines.specs.Reply.{reply_text}
+use Rattle.event_lines.specs.Words.{number_below, name_of, oid_of}
+use Rattle.event_lines.specs.Values.{json_value}
+use Rattle.event_lines.specs.Request.{request_of, words_event, plain_event, worded_event, read_event, when_of, set_event, property_event}
 use Rattle.graph_shell.specs.Pieces.{no_pieces}
 use Rattle.graph_shell.specs.Events.{Kept, Answered, nothing_kept, answer_line, events_text, lines_text, pieces_after}
 

@@ -7,7 +7,7 @@ use Rattle.wire_line.specs.declared.sink.Sink as sink
 use Rattle.wire_line.specs.Calls.{WhereTaken, SinkRose}
 use Rattle.graph_shell.specs.declared.command.Command.{Command}
 use Rattle.graph_shell.specs.declared.command.Command.TheVariants.{Events}
-use Rattle.graph_shell.specs.Reply.{line_end}
+use Rattle.event_lines.specs.Reply.{line_end}
 use Rattle.graph_shell.specs.Runs.{Run, IsAnchor}
 
 -- the one word `events`; its anchor interval is 1 as long as it is no word

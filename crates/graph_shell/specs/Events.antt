@@ -14,12 +14,12 @@ use Rattle.world_model.specs.History.{Entry, may_want, no_memory, is_no_memory, 
 use Rattle.front_core.specs.Keeps.{first_start}
 use Rattle.wire_line.specs.declared.line.TheConstants.{LINE_LIMIT}
 use Rattle.wire_line.specs.Lines.{lines_of, without_return}
-use Rattle.graph_shell.specs.declared.request.Request.{Request}
-use Rattle.graph_shell.specs.declared.request.Wish.{Wish}
-use Rattle.graph_shell.specs.declared.request.Wish.TheVariants as wish
+use Rattle.event_lines.specs.declared.request.Request.{Request}
+use Rattle.event_lines.specs.declared.request.Wish.{Wish}
+use Rattle.event_lines.specs.declared.request.Wish.TheVariants as wish
 use Rattle.graph_shell.specs.Pieces.{Pieces, no_pieces, keeping}
-use Rattle.graph_shell.specs.Request.{request_of, is_skipped}
-use Rattle.graph_shell.specs.Reply.{caller_text, reply_text, piece_text, no_piece, bad_line}
+use Rattle.event_lines.specs.Request.{request_of, is_skipped}
+use Rattle.event_lines.specs.Reply.{caller_text, reply_text, piece_text, no_piece, bad_line}
 
 -- the store's world, and the pieces that its callers keep
 pub record Kept : Type 0 where

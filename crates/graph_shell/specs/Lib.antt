@@ -1,12 +1,6 @@
-pub mod Reply
-pub mod Words
-pub mod Values
-pub mod Request
 pub mod Pieces
 pub mod Kept
-pub mod Spelling
 pub mod Events
 pub mod Stands
-pub mod Told
 pub mod Runs
 pub mod Commands

@@ -3,9 +3,8 @@ ghost use Rattle.graph_shell.specs.Events.{answer_short};
 ghost use Rattle.graph_shell.specs.Stands.{AnswersLine, Past, Stands};
 
 use crate::NoMemory;
-use crate::reply::{push_bad_line, push_reply};
-use crate::request::{Request, is_skipped, read_request};
 use crate::shell::Shell;
+use event_lines::{Request, is_skipped, push_bad_line, push_reply, read_request};
 use std::alloc::Global;
 
 /// Answers a line that isn't too long, without its line end and carriage return: the reply is all that the text then

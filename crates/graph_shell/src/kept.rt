@@ -3,11 +3,10 @@ ghost use Rattle.anchor_store.specs.Blocks.{older_deltas};
 ghost use Rattle.anchor_store.specs.Groups.{AreDescending};
 ghost use Rattle.world_model.specs.Placement.{piece_of};
 ghost use Rattle.graph_shell.specs.Kept.{HasPlace, pieces_of};
-ghost use Rattle.graph_shell.specs.Pieces.{keeping, no_pieces};
-ghost use Rattle.graph_shell.specs.Told.{LiftIsTold};
+ghost use Rattle.graph_shell.specs.Pieces.{LiftIsTold, keeping, no_pieces};
 
 use crate::NoMemory;
-use crate::told::Told;
+use event_lines::Told;
 use graph_value::Oid;
 use std::alloc::{AllocError, Global};
 use std::collections::BTreeMap;

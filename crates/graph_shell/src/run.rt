@@ -4,8 +4,8 @@ ghost use Rattle.graph_shell.specs.Runs.{Continues, IsAnchor, IsTurnAfter, Run, 
 ghost use Rattle.graph_shell.specs.Stands.{Past, Stands};
 
 use crate::answer::answer_line;
-use crate::reply::push_bad_line;
 use crate::shell::Shell;
+use event_lines::push_bad_line;
 use std::alloc::Global;
 use wire_line::{Line, Lines, Sink, Source, write_whole};
 

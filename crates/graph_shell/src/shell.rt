@@ -1,14 +1,13 @@
 ghost use Rattle.std.specs.Prelude.{◌≤◌, IfOk};
 ghost use Rattle.graph_shell.specs.Events.{answer_wish};
-ghost use Rattle.graph_shell.specs.Reply.{caller_text};
+ghost use Rattle.event_lines.specs.Reply.{caller_text};
 ghost use Rattle.graph_shell.specs.Runs.{IsAnchor};
 ghost use Rattle.graph_shell.specs.Stands.{AnswersLine, Past, Stands, no_past, past_of};
-ghost use Rattle.graph_shell.specs.Told.{IsSayable, IsToldTo, IsWithoutPiece, told_text, wished};
+ghost use Rattle.event_lines.specs.Told.{IsSayable, IsToldTo, IsWithoutPiece, told_text, wished};
 
 use crate::NoMemory;
 use crate::kept::Kept;
-use crate::request::Wish;
-use crate::told::Told;
+use event_lines::{Told, Wish};
 use front_core::Core;
 use graph_value::Oid;
 use std::alloc::Global;

@@ -1,6 +1,6 @@
+use event_lines::{is_skipped, push_bad_line, read_request};
 use graph_shell::{
-    Command, NoMemory, Shell, aeong_main, answer_args, answer_line, is_skipped, push_bad_line,
-    read_request, read_words, run_events,
+    Command, NoMemory, Shell, aeong_main, answer_args, answer_line, read_words, run_events,
 };
 use graph_value::Text;
 use std::alloc::Global;

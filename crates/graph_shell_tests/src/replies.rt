@@ -1,8 +1,8 @@
-ghost use Rattle.graph_shell.specs.Told.{IsPlain, IsToldTo};
+ghost use Rattle.event_lines.specs.Told.{IsPlain, IsToldTo};
 ghost use Rattle.world_model.specs.declared.event.Asked.TheVariants as asked;
 
+use event_lines::{NoMemory, Told, push_reply};
 use graph_record::{Object, VertexRecord};
-use graph_shell::{NoMemory, Told, push_reply};
 use graph_value::{EdgeId, Oid, VertexId};
 use std::alloc::Global;
 use std::test::Fail;

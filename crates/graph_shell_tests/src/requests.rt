@@ -1,5 +1,5 @@
 use crate::told::told;
-use graph_shell::{NoMemory, is_skipped, read_request};
+use event_lines::{NoMemory, is_skipped, read_request};
 use std::alloc::Global;
 use std::test::Fail;
 

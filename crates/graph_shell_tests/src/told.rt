@@ -1,4 +1,4 @@
-use graph_shell::{NoMemory, Request, Wish, read_request};
+use event_lines::{NoMemory, Request, Wish, read_request};
 use graph_value::{EdgeId, Name, Oid, Value, VertexId};
 use std::alloc::Global;
 use std::fmt::Write;

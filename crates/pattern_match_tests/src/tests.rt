@@ -12,7 +12,7 @@ use graph_value::{NoMemory, Text};
 use graphs::{Shape, graph};
 use pattern_match::{match_table, matches, tuples};
 use printed::{refusal, rows_text, tuples_text};
-use rows::{ASKED, BOUND, EDGES, KEPT, Kept, NAMES, OPTIONAL, PATHS, Tried, VERTICES};
+use rows::{AHEAD, ASKED, BOUND, EDGES, KEPT, Kept, NAMES, OPTIONAL, PATHS, Tried, VERTICES};
 use std::alloc::Global;
 use std::test::Fail;
 
@@ -96,6 +96,13 @@ fn paths(rt: HostRuntime) -> Result<(), Fail> {
 #[test]
 fn bound_names(rt: HostRuntime) -> Result<(), Fail> {
     let wrong = first_wrong(rt.alloc(), &BOUND)?;
+    assert!(rt; wrong.is_none(), "{wrong:?}");
+    Ok(())
+}
+
+#[test]
+fn bound_further_on(rt: HostRuntime) -> Result<(), Fail> {
+    let wrong = first_wrong(rt.alloc(), &AHEAD)?;
     assert!(rt; wrong.is_none(), "{wrong:?}");
     Ok(())
 }

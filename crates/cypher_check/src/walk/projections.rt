@@ -27,7 +27,7 @@ fn item_place(e: &Expr) -> Place
 }
 
 /// The name that an item gives.
-fn given_name(i: &Item) -> Option<&Name>
+pub fn given_name(i: &Item) -> Option<&Name>
     ensures { option_copied result ≡ given_name i.now.name i.now.expr }
 {
     match (&i.name, &i.expr) {
@@ -63,7 +63,7 @@ fn any_aggregate(is: &[Item]) -> bool
 }
 
 /// Whether rows are grouped or made distinct.
-fn is_closed(p: &Projection) -> bool
+pub fn is_closed(p: &Projection) -> bool
     ensures { result ≡ is_closed p.now }
 {
     p.distinct || any_aggregate(p.items.as_slice())

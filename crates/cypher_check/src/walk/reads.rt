@@ -26,7 +26,7 @@ pub(crate) fn read(scope: &mut Scope, e: &Expr, place: Place) -> Result<(), NoMe
 }
 
 /// Whether an aggregate stands in an expression.
-pub(crate) fn has_aggregate(e: &Expr) -> bool
+pub fn has_aggregate(e: &Expr) -> bool
     ensures { result ≡ has_aggregate e.now }
 {
     expr(&[], e, Place::Seeking).is_some()

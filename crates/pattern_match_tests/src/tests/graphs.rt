@@ -26,6 +26,8 @@ pub(crate) enum Shape {
     Ring,
     /// Four people and two towns: who knows whom, and who lives where.
     Town,
+    /// Fifty vertices, of which five have edges.
+    Wide,
 }
 
 static LOOPS: [VertexRow; 1] = [("A", 1)];
@@ -64,6 +66,16 @@ static TOWN_EDGES: [EdgeRow; 7] = [
     (0, "LIVES", 4, 0),
     (1, "LIVES", 4, 0),
     (2, "LIVES", 5, 0),
+];
+
+static WIDE: [VertexRow; 50] = [("A", 1); 50];
+
+static WIDE_EDGES: [EdgeRow; 5] = [
+    (7, "T", 3, 1),
+    (9, "T", 3, 2),
+    (3, "T", 8, 3),
+    (9, "T", 3, 4),
+    (40, "T", 9, 5),
 ];
 
 fn name(alloc: Global, text: &str) -> Result<Name, NoMemory> {
@@ -176,5 +188,6 @@ pub(crate) fn graph(alloc: Global, shape: Shape) -> Result<CountingReader, NoMem
         Shape::Double => reader(alloc, &PAIR, &DOUBLE_EDGES),
         Shape::Ring => reader(alloc, &RING, &RING_EDGES),
         Shape::Town => reader(alloc, &TOWN, &TOWN_EDGES),
+        Shape::Wide => reader(alloc, &WIDE, &WIDE_EDGES),
     }
 }

@@ -1,5 +1,5 @@
 //! Patterns on small graphs, and what matches them, worked out by hand.
-use crate::tests::graphs::Shape::{self, Double, Empty, Loops, Pair, Ring, Town};
+use crate::tests::graphs::Shape::{self, Double, Empty, Loops, Pair, Ring, Town, Wide};
 
 /// A graph, the names that are bound before, a pattern, and its tuples, or a refusal behind `!`.
 pub(crate) type Tried = (Shape, &'static str, &'static str, &'static str);
@@ -133,6 +133,78 @@ pub(crate) static BOUND: [Tried; 16] = [
     (Ring, "g=e9", "(a)-[g]->(b)", ""),
 ];
 
+/// Elements that are bound behind a free one: by the row, or by an earlier pattern.
+pub(crate) static AHEAD: [Tried; 23] = [
+    (Ring, "p=v2", "(a)-[e]->(p)", "[1,1,2] [2,3,2]"),
+    (Ring, "p=v2", "(a)<-[e]-(p)", "[0,2,2] [2,3,2]"),
+    (Ring, "p=v2", "(a)-[e]-(p)", "[0,2,2] [1,1,2] [2,3,2]"),
+    (Ring, "p=v2", "(a:B)-[e:U|T]->(p {k: 2})", "[1,1,2] [2,3,2]"),
+    (Double, "p=v1", "(a)-[e]-(p)", "[0,0,1] [0,1,1] [0,2,1]"),
+    (Double, "p=v1", "(a:A)-[:T]->(p)", "[0,0,1] [0,1,1]"),
+    (Loops, "p=v0", "(a)-[e]-(p)", "[0,0,0] [0,1,0]"),
+    (
+        Loops,
+        "p=v0",
+        "(a)-[e]->(b)-[f]->(p)",
+        "[0,0,0,1,0] [0,1,0,0,0]",
+    ),
+    (
+        Ring,
+        "p=v0",
+        "(a)-[e]->(b)-[f]->(p)",
+        "[1,1,2,2,0] [2,3,2,2,0]",
+    ),
+    (Ring, "p=v0", "(a)<-[e]-(b)-[f]->(p)", "[2,3,2,2,0]"),
+    (
+        Ring,
+        "p=v2 q=v0",
+        "(a)-[e]->(p)-[f]->(q)",
+        "[1,1,2,2,0] [2,3,2,2,0]",
+    ),
+    (
+        Double,
+        "p=v1",
+        "(a)-[e]->(b)-[f]->(a)-[g]->(p)",
+        "[0,0,1,2,0,1,1] [0,1,1,2,0,0,1]",
+    ),
+    (
+        Ring,
+        "p=v0",
+        "(a), (b)-[e]->(p)",
+        "[0,2,2,0] [1,2,2,0] [2,2,2,0]",
+    ),
+    (
+        Town,
+        "",
+        "(c:C), (a)-[:LIVES]->(c)",
+        "[4,0,4,4] [4,1,5,4] [5,2,6,5]",
+    ),
+    (
+        Town,
+        "",
+        "(a {k: 20}), (c)-[e]->(d)<-[f]-(a)",
+        "[1,0,2,2,1,1] [1,0,4,4,5,1]",
+    ),
+    (Town, "", "(a {k: 40}), (b)-[e]-(a)", ""),
+    (Town, "p=v3", "(a)-[e]->(b)-[f]->(p)", ""),
+    (Ring, "f=e3", "(a)-[e]->(b)-[f]->(c)", "[1,1,2,3,2]"),
+    (
+        Ring,
+        "f=e1",
+        "(a)-[e]-(b)-[f]-(c)",
+        "[0,0,1,1,2] [0,2,2,1,1] [2,3,2,1,1]",
+    ),
+    (
+        Ring,
+        "f=e1",
+        "(a)<-[e]-(b)<-[f]-(c)",
+        "[0,2,2,1,1] [2,3,2,1,1]",
+    ),
+    (Ring, "f=e9", "(a)-[e]->(b)-[f]->(c)", ""),
+    (Ring, "g=v9", "(a)-[e]->(g)", ""),
+    (Ring, "n=null", "(a)-[e]->(b)-[f]->(n)", ""),
+];
+
 pub(crate) static NAMES: [Tried; 18] = [
     (Ring, "n=null", "(n)", ""),
     (Ring, "n=null", "(n)-[e]->(b)", ""),
@@ -224,7 +296,7 @@ pub(crate) static OPTIONAL: [Kept; 8] = [
 /// A graph, names, a pattern, the call of the reader that finds no memory, the tuples, and how often the reader was asked.
 pub(crate) type Asked = (Shape, &'static str, &'static str, u64, &'static str, u64);
 
-pub(crate) static ASKED: [Asked; 12] = [
+pub(crate) static ASKED: [Asked; 20] = [
     (Ring, "", "(a)", 0, "[0] [1] [2]", 7),
     (Ring, "p=v0", "(p)-[e]->(b)", 0, "[0,0,1]", 4),
     (Ring, "p=v0", "(p)-[e]->(b)", 1, "!no memory", 1),
@@ -244,4 +316,26 @@ pub(crate) static ASKED: [Asked; 12] = [
     ),
     (Ring, "n=null", "(n)-[e]->(b)", 0, "", 0),
     (Ring, "n=null", "(a), (n)", 0, "", 0),
+    (
+        Wide,
+        "p=v3",
+        "(a)-[e]->(p)",
+        0,
+        "[7,0,3] [9,1,3] [9,3,3]",
+        14,
+    ),
+    (Wide, "p=v3", "(a)-[e]->(p)", 1, "!no memory", 1),
+    (Wide, "p=v3", "(a)-[e]->(p)", 4, "!no memory", 4),
+    (Wide, "p=v3", "(a)-[e]->(p)", 5, "!no memory", 5),
+    (
+        Wide,
+        "p=v3",
+        "(a)-[e]->(b)-[f]->(p)",
+        0,
+        "[40,4,9,1,3] [40,4,9,3,3]",
+        16,
+    ),
+    (Wide, "p=v5", "(a)-[e]->(p)", 0, "", 1),
+    (Wide, "f=e4", "(a)-[f]->(b)", 0, "[40,4,9]", 4),
+    (Wide, "f=e4", "(a)-[f]->(b)", 1, "!no memory", 1),
 ];

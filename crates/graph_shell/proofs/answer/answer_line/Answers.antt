@@ -2,11 +2,11 @@
 use Rattle.std.proofs.Common.{sym, ap, ◌∙◌}
 use Rattle.std.specs.Prelude.{◌++◌, string_bytes}
 use Rattle.std.proofs.lemmas.Result.{on_ok_weaker}
-use Rattle.graph_shell.specs.Reply.{caller_text}
+use Rattle.event_lines.specs.Reply.{caller_text}
 use Rattle.graph_shell.specs.Stands.{Stands}
-use Rattle.graph_shell.specs.Told.{told_text, wished}
+use Rattle.event_lines.specs.Told.{told_text, wished}
 use Rattle.graph_shell.proofs.Answering.{answers_request}
-use Rattle.graph_shell.proofs.Read.{read_is_sayable}
+use Rattle.event_lines.proofs.Read.{read_is_sayable}
 use Rattle.graph_shell.proofs.answer.answer_line.Goals as goal
 
 pub perform-told-requires : goal.perform-told-requires

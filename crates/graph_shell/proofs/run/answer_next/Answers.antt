@@ -2,7 +2,7 @@
 use Rattle.std.proofs.Common.{ℕ, List, ◌++◌, string_bytes, ap, ◌∙◌}
 use Rattle.wire_line.proofs.Told.{told_weaker}
 use Rattle.graph_shell.specs.Stands.{Stands}
-use Rattle.graph_shell.specs.Reply.{bad_line}
+use Rattle.event_lines.specs.Reply.{bad_line}
 use Rattle.graph_shell.proofs.Turns.{answers_short, answers_long}
 use Rattle.graph_shell.proofs.run.answer_next.Goals as goal
 

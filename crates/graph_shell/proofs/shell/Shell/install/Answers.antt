@@ -6,12 +6,12 @@ use Rattle.world_model.specs.Reply as reply
 use Rattle.world_model.specs.declared.answer.Refused.TheVariants as refused
 use Rattle.world_model.specs.declared.event.Asked.TheVariants as asked
 use Rattle.front_core.specs.declared.state.State.{State}
-use Rattle.graph_shell.specs.declared.told.Told.TheVariants as told
+use Rattle.event_lines.specs.declared.told.Told.TheVariants as told
 use Rattle.graph_shell.specs.Kept.{Places, pieces_in}
 use Rattle.graph_shell.specs.Pieces.{keeping}
-use Rattle.graph_shell.specs.Reply.{installed_text}
+use Rattle.event_lines.specs.Reply.{installed_text}
 use Rattle.graph_shell.specs.Stands.{ShellParts, Stands}
-use Rattle.graph_shell.specs.Told.{told_text}
+use Rattle.event_lines.specs.Told.{told_text}
 use Rattle.graph_shell.proofs.Answering.{is_of_some, tells_taken, tells_none, put_back, some_past, left_text, left_memory, is_left, plain_nothing}
 use Rattle.graph_shell.proofs.shell.Shell.install.Goals as goal
 

@@ -1,10 +1,10 @@
 -- A wish is an event, or an installation.
 use Rattle.std.proofs.Common.{sym, subst}
-use Rattle.graph_shell.specs.declared.request.Wish.{Wish}
+use Rattle.event_lines.specs.declared.request.Wish.{Wish}
 use Rattle.graph_shell.specs.Events.{answer_wish}
-use Rattle.graph_shell.specs.Reply.{caller_text}
+use Rattle.event_lines.specs.Reply.{caller_text}
 use Rattle.graph_shell.specs.Stands.{AnswersLine, Stands}
-use Rattle.graph_shell.specs.Told.{told_text, wished}
+use Rattle.event_lines.specs.Told.{told_text, wished}
 use Rattle.graph_shell.proofs.shell.Shell.perform.Goals as goal
 
 pub returns-in-Event-clause-answers : goal.returns-in-Event-clause-answers

@@ -1,0 +1,11 @@
+pub mod Objects
+pub mod Steps
+pub mod Kept
+pub mod Asking
+pub mod UnderWay
+pub mod Ended
+pub mod Weights
+pub mod Apart
+pub mod Answered
+pub mod Undisturbed
+pub mod Moves

@@ -1,0 +1,4 @@
+pub mod Left
+pub mod Sweeping
+pub mod Advancing
+pub mod Whole

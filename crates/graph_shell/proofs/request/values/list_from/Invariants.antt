@@ -1,7 +1,0 @@
-use Rattle.std.proofs.Common.{◌≡◌, Some}
-use Rattle.serde_json.specs.View.{items_view}
-use Rattle.graph_shell.specs.Values.{list_from}
-use Rattle.graph_shell.proofs.request.values.list_from.Given as goal
-
-abbrev pub invariant-loop-item : goal.invariant-loop-item
-invariant-loop-item l = record { so_far : list_from (items_view l.yielded) ≡ Some l.values }

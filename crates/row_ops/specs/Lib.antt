@@ -1,0 +1,10 @@
+pub mod Unwinding
+pub mod Columns
+pub mod Making
+pub mod Distinct
+pub mod Sorting
+pub mod Filtering
+pub mod Compiling
+pub mod Aggregates
+pub mod Grouping
+pub mod Projecting
