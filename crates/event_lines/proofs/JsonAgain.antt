@@ -30,7 +30,7 @@ use Rattle.graph_value.specs.declared.value.Value.{Value, out-Value, roll-Value,
 use Rattle.graph_value.specs.declared.value.Value.TheVariants as value
 use Rattle.graph_value.specs.declared.value.Value.TheOpen.{Value-F}
 use Rattle.graph_value.proofs.Levels.{int_rolled}
-use Rattle.graph_record.specs.Json.{simple_level, simple_data, value_level}
+use Rattle.graph_reader.specs.Json.{simple_level, simple_data, value_level}
 use Rattle.event_lines.specs.Values.{is_white, begins_white, ends_white, simple_from, list_from, value_from, json_value}
 use Rattle.event_lines.specs.Spelling.{value_text, IsSpelledSimple, AreSpelled, IsSpelledLevel, IsSpelledValue}
 use Rattle.event_lines.proofs.Numbers.{own}

@@ -6,7 +6,7 @@ use Rattle.graph_value.specs.declared.id.Oid.{Oid}
 use Rattle.graph_value.specs.declared.id.Oid.TheVariants as oid
 use Rattle.graph_record.specs.declared.object.Object.{Object}
 use Rattle.graph_record.specs.declared.object.Object.TheVariants.{Dead}
-use Rattle.graph_record.specs.Json.{object_text}
+use Rattle.graph_reader.specs.Json.{object_text}
 use Rattle.txn_manager.specs.declared.rivals.Rival.{Rival}
 use Rattle.txn_manager.specs.declared.rivals.Rival.TheVariants as rival
 use Rattle.world_model.specs.declared.answer.Wrote.{Wrote}

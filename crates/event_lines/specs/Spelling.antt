@@ -12,7 +12,7 @@ use Rattle.graph_value.specs.declared.id.Oid.{Oid}
 use Rattle.graph_value.specs.declared.id.Oid.TheVariants as oid
 use Rattle.graph_value.specs.declared.value.Value.{Value, out-Value}
 use Rattle.graph_value.specs.declared.value.Value.TheOpen.{Value-F}
-use Rattle.graph_record.specs.Json.{value_data}
+use Rattle.graph_reader.specs.Json.{value_data}
 use Rattle.undo_delta.specs.declared.ask.Ask.{Ask}
 use Rattle.undo_delta.specs.declared.ask.Ask.TheVariants.{CreateVertex, DeleteVertex, AddLabel, RemoveLabel, SetVertexProp, CreateEdge, DeleteEdge, SetEdgeProp}
 use Rattle.world_model.specs.declared.event.Event.{Event}

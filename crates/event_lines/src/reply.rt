@@ -7,7 +7,8 @@ ghost use Rattle.event_lines.specs.Told.{IsPlain, IsToldTo, told_text};
 
 use crate::NoMemory;
 use crate::told::Told;
-use graph_record::{Object, push_object_json};
+use graph_reader::push_object_json;
+use graph_record::Object;
 use graph_value::{EdgeId, Oid, VertexId};
 use std::alloc::Global;
 use std::fmt::Write;

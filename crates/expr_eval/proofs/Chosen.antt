@@ -2,7 +2,7 @@
 use Rattle.std.proofs.Common.{◌≡◌, ℕ, zero, suc, ◌<◌, List, [], ◌∷◌, length, drop, get_or, Bool, cond, Option, Ok, sym, ap, ◌∙◌, refl, arith}
 use Rattle.cypher_syntax.specs.declared.tree.expr.Expr.{Expr}
 use Rattle.graph_record.specs.Graph.{Graph}
-use Rattle.graph_record.specs.Reading.{Continues}
+use Rattle.graph_reader.specs.Reading.{Continues}
 use Rattle.graph_value.specs.declared.value.Value.{Value}
 use Rattle.expr_eval.specs.Eval.{some, holds, eval_of, chosen_of}
 use Rattle.expr_eval.specs.Outcome.{Outcome, and_then, Evaluates}

@@ -2,7 +2,7 @@
 use Rattle.std.proofs.Common.{◌≡◌, Result, Ok, Err, sym, ap, ◌∙◌, subst}
 use Rattle.std.specs.Prelude.{IsErrAnd}
 use Rattle.graph_record.specs.Graph.{Graph}
-use Rattle.graph_record.specs.Reading.{Continues}
+use Rattle.graph_reader.specs.Reading.{Continues}
 use Rattle.expr_eval.specs.declared.refused.EvalRefused.{EvalRefused}
 use Rattle.expr_eval.specs.declared.refused.EvalRefused.TheVariants.{TypeFault, Overflow, ZeroDivisor, TooLarge, RowLimit, Gone, NoMemory}
 use Rattle.expr_eval.specs.Outcome.{Outcome, and_then, Answers, Evaluates}

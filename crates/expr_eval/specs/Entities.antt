@@ -9,7 +9,7 @@ use Rattle.graph_value.specs.declared.id.Oid.TheVariants as oid
 use Rattle.graph_value.specs.declared.value.Value.{Value, out-Value}
 use Rattle.graph_value.specs.declared.value.Value.TheVariants as value
 use Rattle.graph_value.specs.declared.value.Value.TheOpen.{Value-F}
-use Rattle.graph_record.specs.Alive.{vertex_in, edge_in}
+use Rattle.graph_reader.specs.Alive.{vertex_in, edge_in}
 use Rattle.graph_record.specs.Edits.{has}
 use Rattle.graph_record.specs.Graph.{Graph}
 use Rattle.graph_record.specs.declared.object.VertexRecord.{VertexRecord}

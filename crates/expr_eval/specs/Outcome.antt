@@ -1,7 +1,7 @@
 -- What an evaluation comes to: a value, or the reason why there is none.
 use Rattle.std.specs.Prelude.{◌≡◌, Result, Ok, Err}
 use Rattle.graph_record.specs.Graph.{Graph}
-use Rattle.graph_record.specs.Reading.{Reads}
+use Rattle.graph_reader.specs.Reading.{Reads}
 use Rattle.expr_eval.specs.declared.refused.EvalRefused.{EvalRefused}
 use Rattle.expr_eval.specs.declared.refused.EvalRefused.TheVariants.{TypeFault, Overflow, ZeroDivisor, TooLarge, RowLimit, Gone, NoMemory}
 

@@ -6,6 +6,10 @@ use Rattle.graph_value.specs.declared.value.Value.TheVariants as value
 abbrev pub Row : Type 0
 Row = List (List ℕ × Value)
 
+-- how many rows a table has at most
+abbrev pub row_limit : ℕ
+row_limit = 1000000
+
 -- The value of a name. A name that isn't in the row is null, which no checked expression asks for.
 abbrev pub value_of : Row → List ℕ → Value
 value_of [] name = value.Null

@@ -63,6 +63,15 @@ abbrev pub negated : Left → Outcome Value
 negated (Truth t) = Ok (tri_value (tri_not t))
 negated left = Err TypeFault
 
+-- WHERE keeps a row where its condition is true: null doesn't keep it, and a value that is no truth value is refused.
+abbrev pub keeps_level : Value-F Value → Outcome Bool
+keeps_level Value-F.Null = Ok false
+keeps_level (Value-F.Bool b) = Ok b
+keeps_level v = Err TypeFault
+
+unfoldable pub keeps : Value → Outcome Bool
+keeps v = keeps_level (out-Value v)
+
 -- AND and OR are settled by what stands on the left: the right isn't evaluated then.
 abbrev pub is_settled : Joint → Left → Bool
 is_settled And (Truth t) = is_false t

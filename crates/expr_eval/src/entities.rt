@@ -7,7 +7,8 @@ ghost use Rattle.expr_eval.specs.Outcome.{Evaluates, Answers, and_then};
 
 use crate::EvalRefused;
 use crate::size::sized_list;
-use graph_record::{EdgeRecord, GraphRead, Labels, Properties, VertexRecord};
+use graph_reader::GraphRead;
+use graph_record::{EdgeRecord, Labels, Properties, VertexRecord};
 use graph_value::{EdgeId, Name, NoMemory, Oid, Text, Value, VertexId};
 use sqlite_items::Items;
 use std::alloc::Global;

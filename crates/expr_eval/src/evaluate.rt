@@ -14,7 +14,7 @@ use crate::texts::TextTest;
 use crate::truth::{Joint, Left, condition, ended, is_true, negated, tri_not, tri_value, truth};
 use crate::{EvalRefused, Row};
 use cypher_syntax::{CmpOp, Expr, Fun, PostOp, PredOp, ProdOp, SumOp};
-use graph_record::GraphRead;
+use graph_reader::GraphRead;
 use graph_value::{List, Tri, Value, equals};
 use sqlite_items::{Boxed, Items};
 use std::alloc::Global;

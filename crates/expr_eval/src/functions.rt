@@ -8,7 +8,7 @@ use crate::EvalRefused;
 use crate::entities::{end_of, keys, kind_of, labels_of, start_of};
 use crate::lists::{element, range};
 use cypher_syntax::Fun;
-use graph_record::GraphRead;
+use graph_reader::GraphRead;
 use graph_value::{List, NoMemory, Text, Value};
 use std::alloc::Global;
 

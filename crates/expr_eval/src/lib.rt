@@ -15,4 +15,5 @@ mod truth;
 
 pub use evaluate::eval;
 pub use refused::EvalRefused;
-pub use row::{Row, Table};
+pub use row::{ROW_LIMIT, Row, Table};
+pub use truth::keeps;

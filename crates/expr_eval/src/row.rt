@@ -11,6 +11,9 @@ pub type Row = Items<(Name, Value)>;
 /// The rows between two clauses.
 pub type Table = Items<Row>;
 
+/// How many rows a table has at most.
+pub const ROW_LIMIT: usize = 1_000_000;
+
 /// The value of a name, and null where the row has no such name.
 pub(crate) fn value(alloc: Global, row: &[(Name, Value)], name: &Name) -> Result<Value, NoMemory>
     ensures { IfOk result (λ v. v ≡ value_of row.now name.now) }

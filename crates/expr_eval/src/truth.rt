@@ -1,6 +1,6 @@
 //! Truth values, of which null is the unknown one.
 ghost use Rattle.std.specs.Prelude.{◌≡◌};
-ghost use Rattle.expr_eval.specs.Truth.{tri_not, tri_or, tri_xor, is_true, tri_value, truth, known_truth, condition, negated, is_settled, joint_of, joined, ended};
+ghost use Rattle.expr_eval.specs.Truth.{tri_not, tri_or, tri_xor, is_true, tri_value, truth, known_truth, condition, keeps, negated, is_settled, joint_of, joined, ended};
 
 use crate::EvalRefused;
 use graph_value::{Tri, Value};
@@ -84,6 +84,18 @@ pub(crate) fn condition(value: Value) -> Result<Tri, EvalRefused>
     match truth(value) {
         Left::Truth(t) => Ok(t),
         Left::Nothing | Left::Other => Err(EvalRefused::TypeFault),
+    }
+}
+
+/// Whether WHERE keeps a row in which its condition has this value. A value that is no truth value is refused.
+#[tactic(auto, unfolding(crate::specs::Truth::keeps))]
+pub fn keeps(value: &Value) -> Result<bool, EvalRefused>
+    ensures { result ≡ keeps value.now }
+{
+    match value {
+        Value::Null => Ok(false),
+        Value::Bool(b) => Ok(*b),
+        _ => Err(EvalRefused::TypeFault),
     }
 }
 

@@ -1,11 +1,12 @@
 ghost use Rattle.std.specs.Prelude.{◌≡◌, IfOk};
 ghost use Rattle.expr_eval_tests.specs.Counting.{HasParts, SameParts, same_itself, same_onward};
-ghost use Rattle.graph_record.specs.Alive.{first_above};
-ghost use Rattle.graph_record.specs.Alive as above;
+ghost use Rattle.graph_reader.specs.Alive.{first_above};
+ghost use Rattle.graph_reader.specs.Alive as above;
 ghost use Rattle.graph_record.specs.Graph.{vertex_cmp, edge_cmp};
 ghost use Rattle.std.specs.FinMap.{find};
 
-use graph_record::{EdgeRecord, GraphRead, NoMemory, VertexRecord};
+use graph_reader::GraphRead;
+use graph_record::{EdgeRecord, NoMemory, VertexRecord};
 use graph_value::{EdgeId, VertexId};
 use sqlite_items::Items;
 use std::alloc::AllocError;

@@ -5,7 +5,7 @@ use crate::CountingReader;
 use cypher_parse::parse;
 use cypher_syntax::{Expr, Query};
 use expr_eval::{EvalRefused, Row, eval};
-use graph_record::{Shown, show, to_json};
+use graph_reader::{Shown, show, to_json};
 use graph_value::{NoMemory, Oid, Text, Value};
 use rows::{
     CHOICES, CONVERSIONS, EDGES, ELEMENTS, EQUALITY, IDS_AND_LABELS, IN_LISTS, KEYS, LABEL_TESTS,

@@ -1,14 +1,9 @@
 pub mod Ascending
 pub mod Edits
 pub mod Place
-pub mod Json
 pub mod Record
 pub mod Form
+pub mod OfKind
 pub mod Stored
 pub mod Graph
 pub mod Shared
-pub mod Writing
-pub mod Reading
-pub mod Alive
-pub mod Shown
-pub mod Rows

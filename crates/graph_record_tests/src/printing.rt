@@ -1,4 +1,5 @@
-use graph_record::{EdgeRecord, Kind, Object, Properties, VertexRecord, object_json};
+use graph_reader::object_json;
+use graph_record::{EdgeRecord, Kind, Object, Properties, VertexRecord};
 use graph_value::{EdgeId, Name, NoMemory, Oid, Text, Value, VertexId};
 use std::alloc::Global;
 use std::test::Fail;

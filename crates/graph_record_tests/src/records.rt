@@ -1,6 +1,5 @@
-use graph_record::{
-    EdgeIds, EdgeRecord, Graph, Kind, Labels, NoMemory, Object, Properties, VertexRecord,
-};
+use graph_reader::Graph;
+use graph_record::{EdgeIds, EdgeRecord, Kind, Labels, NoMemory, Object, Properties, VertexRecord};
 use graph_value::{EdgeId, Name, Value, VertexId};
 use std::alloc::Global;
 use std::test::Fail;

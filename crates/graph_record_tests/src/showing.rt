@@ -1,4 +1,5 @@
-use graph_record::{Graph, GraphRead, Kind, Labels, Properties, ShowRefused, Shown, show, to_json};
+use graph_reader::{Graph, GraphRead, ShowRefused, Shown, show, to_json};
+use graph_record::{Kind, Labels, Properties};
 use graph_value::{EdgeId, Name, Oid, Text, Value, VertexId};
 use sqlite_items::Items;
 use std::alloc::Global;

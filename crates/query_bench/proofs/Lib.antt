@@ -1,2 +1,3 @@
 mod Pushed
 mod Quoted
+pub mod Coherent

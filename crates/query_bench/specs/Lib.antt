@@ -1,1 +1,4 @@
 pub mod Reply
+pub mod Answered
+pub mod Rows
+pub mod Coherence

@@ -41,7 +41,7 @@ fn push_tree(alloc: Global, out: &mut String, query: &Query) -> Result<(), NoMem
     out.push_str(tree.as_str())
 }
 
-fn push_fault(alloc: Global, out: &mut String, why: &Fault) -> Result<(), NoMemory>
+pub fn push_fault(alloc: Global, out: &mut String, why: &Fault) -> Result<(), NoMemory>
     ensures ok { OnOk result (string_bytes out.new ≡ string_bytes out.old ++ fault_text why.now) }
 {
     match why {

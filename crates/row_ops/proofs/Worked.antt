@@ -1,5 +1,5 @@
 -- Small tables whose answers are known.
-use Rattle.std.proofs.Common.{◌≡◌, ℕ, Bool, true, false, [], ◌∷◌, Some, refl}
+use Rattle.std.proofs.Common.{◌≡◌, ℕ, true, false, [], ◌∷◌, Some, refl}
 use Rattle.std.specs.Prelude.{nat_lt}
 use Rattle.graph_value.specs.declared.value.Value.TheVariants as value
 use Rattle.row_ops.specs.Making.{starred}

@@ -1,6 +1,6 @@
 -- An expression with its aggregates taken out. In the stead of each stands its number as a name; they are counted in reading
 -- order.
-use Rattle.std.specs.Prelude.{ℕ, ◌+◌, Bool, true, false, List, [], ◌∷◌, ◌++◌, length, map, Option, Some, None}
+use Rattle.std.specs.Prelude.{ℕ, ◌+◌, true, false, List, [], ◌∷◌, ◌++◌, length, map, Option, Some, None}
 use Rattle.std.specs.Fmt.{decimal}
 use Rattle.graph_value.specs.declared.value.Value.TheVariants as value
 use Rattle.cypher_syntax.specs.declared.tree.expr.Expr.{Expr, fold-Expr}

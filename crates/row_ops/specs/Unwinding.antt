@@ -6,7 +6,7 @@ use Rattle.graph_value.specs.declared.value.Value.{Value, out-Value}
 use Rattle.graph_value.specs.declared.value.Value.TheOpen.{Value-F}
 use Rattle.expr_eval.specs.Eval.{eval_of}
 use Rattle.expr_eval.specs.Outcome.{Outcome, and_then}
-use Rattle.expr_eval.specs.Row.{Row}
+use Rattle.expr_eval.specs.Row.{Row, row_limit}
 use Rattle.expr_eval.specs.declared.refused.EvalRefused.TheVariants.{TypeFault, RowLimit}
 
 -- the elements that get a row each: null has none
@@ -22,9 +22,9 @@ elements v = elements_level (out-Value v)
 abbrev pub with_name : Row → List ℕ → Value → Row
 with_name row name v = row ++ (name, v) ∷ []
 
--- a table has a million rows at most
+-- whether a table may have so many rows
 abbrev pub has_room : ℕ → Bool
-has_room rows = nat_le rows 1000000
+has_room rows = nat_le rows row_limit
 
 abbrev pub limited : List Row → Outcome (List Row)
 limited rows = if has_room (length rows) then Ok rows else Err RowLimit

@@ -5,23 +5,10 @@ ghost use Rattle.row_ops.specs.Filtering as spec;
 
 use crate::queues::queue;
 use cypher_syntax::Expr;
-use expr_eval::{EvalRefused, Table, eval};
-use graph_record::GraphRead;
-use graph_value::Value;
+use expr_eval::{EvalRefused, Table, eval, keeps};
+use graph_reader::GraphRead;
 use sqlite_items::Items;
 use std::alloc::Global;
-
-/// Whether a condition is true.
-#[tactic(auto, unfolding(crate::specs::Filtering::holds))]
-fn holds(value: Value) -> Result<bool, EvalRefused>
-    ensures { result ≡ spec.holds value }
-{
-    match value {
-        Value::Null => Ok(false),
-        Value::Bool(b) => Ok(b),
-        _ => Err(EvalRefused::TypeFault),
-    }
-}
 
 /// The rows in which a condition is true.
 fn kept<G: GraphRead>(
@@ -36,7 +23,8 @@ fn kept<G: GraphRead>(
     let mut kept = Items::new(alloc);
     let mut left = queue(alloc, rows)?;
     while let Some(row) = left.pop_front() {
-        if holds(eval(alloc, condition, &row, graph)?)? {
+        let value = eval(alloc, condition, &row, graph)?;
+        if keeps(&value)? {
             kept.push(row)?;
         }
     }

@@ -17,7 +17,7 @@ use crate::rows::with_values;
 use cypher_check::has_aggregate;
 use cypher_syntax::{Expr, Item};
 use expr_eval::{EvalRefused, Row, Table, eval};
-use graph_record::GraphRead;
+use graph_reader::GraphRead;
 use graph_value::{List, NoMemory, Value};
 use indexmap::IndexSet;
 use sqlite_items::Items;

@@ -9,7 +9,7 @@ use crate::queues::queue;
 use crate::rows::{copy, with_copies};
 use cypher_syntax::{Item, Projection};
 use expr_eval::{EvalRefused, Row, Table, eval};
-use graph_record::GraphRead;
+use graph_reader::GraphRead;
 use graph_value::{List, NoMemory};
 use sqlite_items::Items;
 use std::alloc::Global;

@@ -15,7 +15,7 @@ use crate::sorting::sorted;
 use cypher_check::has_aggregate;
 use cypher_syntax::{Item, Projection};
 use expr_eval::{EvalRefused, Table};
-use graph_record::GraphRead;
+use graph_reader::GraphRead;
 use graph_value::NoMemory;
 use sqlite_items::Items;
 use std::alloc::Global;

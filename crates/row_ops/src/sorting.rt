@@ -10,7 +10,7 @@ use crate::queues::queue;
 use cypher_check::{is_closed, same_exprs};
 use cypher_syntax::{Expr, Item, Projection, Sort};
 use expr_eval::{EvalRefused, Row, eval};
-use graph_record::GraphRead;
+use graph_reader::GraphRead;
 use graph_value::{List, NoMemory, Value, order};
 use sqlite_items::Items;
 use std::alloc::Global;

@@ -6,14 +6,11 @@ ghost use Rattle.row_ops.specs.Unwinding.{elements, with_name, has_room, limited
 use crate::queues::queue;
 use crate::rows::copy;
 use cypher_syntax::Unwind;
-use expr_eval::{EvalRefused, Row, Table, eval};
-use graph_record::GraphRead;
+use expr_eval::{EvalRefused, ROW_LIMIT, Row, Table, eval};
+use graph_reader::GraphRead;
 use graph_value::{List, Name, NoMemory, Value};
 use sqlite_items::Items;
 use std::alloc::Global;
-
-/// How many rows a table may have.
-const ROW_LIMIT: u128 = 1_000_000;
 
 /// The elements that get a row each.
 #[tactic(auto, unfolding(crate::specs::Unwinding::elements))]
@@ -31,7 +28,7 @@ fn elements(alloc: Global, list: Value) -> Result<List, EvalRefused>
 fn has_room(rows: &[Row], more: &[Value]) -> bool
     ensures { result ≡ has_room (length rows.now + length more.now) }
 {
-    rows.len() as u128 + more.len() as u128 <= ROW_LIMIT
+    rows.len() as u128 + more.len() as u128 <= ROW_LIMIT as u128
 }
 
 /// A row with one more name.

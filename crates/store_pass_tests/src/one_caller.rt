@@ -1,5 +1,6 @@
 use front_core::Core;
-use graph_record::{GraphRead, Object};
+use graph_reader::GraphRead;
+use graph_record::Object;
 use graph_value::{EdgeId, Oid, VertexId};
 use std::alloc::{AllocError, Global};
 use std::process::Abort;

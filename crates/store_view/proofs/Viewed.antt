@@ -6,7 +6,7 @@ use Rattle.graph_value.specs.declared.id.EdgeId.{EdgeId}
 use Rattle.graph_value.specs.declared.id.Oid.TheVariants as oid
 use Rattle.graph_record.specs.declared.object.VertexRecord.{VertexRecord}
 use Rattle.graph_record.specs.declared.object.EdgeRecord.{EdgeRecord}
-use Rattle.graph_record.specs.Alive.{edge_in, first_above, is_above, next_vertex_in, vertex_in}
+use Rattle.graph_reader.specs.Alive.{edge_in, first_above, is_above, next_vertex_in, vertex_in}
 use Rattle.graph_record.specs.Graph.{Graph, edge_object, object_at, vertex_object}
 use Rattle.world_model.specs.declared.event.Kind.TheVariants.{Vertex}
 use Rattle.graph_value.specs.declared.id.Oid.{Oid}

@@ -1,12 +1,13 @@
 //! A store's graph as a reader.
 ghost use Rattle.std.specs.Prelude.{◌≡◌, option_map, refl};
 ghost use Rattle.std.proofs.Common.{◌∙◌};
-ghost use Rattle.graph_record.specs.Alive.{edge_in, vertex_in};
+ghost use Rattle.graph_reader.specs.Alive.{edge_in, vertex_in};
 ghost use Rattle.store_view.specs.Seen.{edge_record, numbered, vertex_number, vertex_record};
 ghost use Rattle.world_model.specs.Sending.{OnlyReads, Sees};
 ghost use Rattle.world_model.proofs.Sent.{only_reads_itself, only_reads_onward, sees_coherent};
 
-use graph_record::{EdgeRecord, GraphRead, NoMemory, Object, VertexRecord};
+use graph_reader::GraphRead;
+use graph_record::{EdgeRecord, NoMemory, Object, VertexRecord};
 use graph_value::{EdgeId, Oid, VertexId};
 use std::alloc::{AllocError, Global};
 use world_model::{GraphStore, Kind, Txn, When};

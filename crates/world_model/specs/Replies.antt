@@ -3,7 +3,7 @@ use Rattle.std.specs.Prelude.{◌≡◌, ◌≢◌, ◌⊎◌, ℕ, Option}
 use Rattle.graph_value.specs.declared.id.Oid.{Oid}
 use Rattle.graph_record.specs.declared.object.Object.{Object}
 use Rattle.graph_record.specs.declared.object.Object.TheVariants.{Dead, Vertex, Edge}
-use Rattle.graph_record.specs.Json.{IsOfKind}
+use Rattle.graph_record.specs.OfKind.{IsOfKind}
 use Rattle.world_model.specs.declared.answer.Answer.{Answer}
 use Rattle.world_model.specs.declared.answer.Answer.TheVariants as answer
 use Rattle.world_model.specs.declared.event.Asked.{Asked}

@@ -5,7 +5,7 @@ use Rattle.std.specs.Set.{sorted_merge}
 use Rattle.graph_value.specs.declared.id.EdgeId.{EdgeId}
 use Rattle.graph_value.specs.declared.id.Oid.{Oid}
 use Rattle.graph_value.specs.declared.id.Oid.TheVariants.{Vertex, Edge}
-use Rattle.graph_record.specs.Alive.{vertex_in}
+use Rattle.graph_reader.specs.Alive.{vertex_in}
 use Rattle.graph_record.specs.Graph.{Graph, edge_cmp}
 use Rattle.graph_record.specs.declared.object.VertexRecord.{VertexRecord}
 use Rattle.expr_eval.specs.declared.refused.EvalRefused.TheVariants.{TypeFault}

@@ -4,7 +4,7 @@ use Rattle.graph_value.specs.declared.id.Oid.{Oid}
 use Rattle.graph_value.specs.declared.id.Oid.TheVariants as oid
 use Rattle.graph_value.specs.declared.value.Value.{Value, out-Value}
 use Rattle.graph_value.specs.declared.value.Value.TheOpen.{Value-F}
-use Rattle.graph_record.specs.Alive.{vertex_in, edge_in}
+use Rattle.graph_reader.specs.Alive.{vertex_in, edge_in}
 use Rattle.graph_record.specs.Graph.{Graph}
 use Rattle.expr_eval.specs.declared.refused.EvalRefused.TheVariants.{Gone}
 use Rattle.expr_eval.specs.Outcome.{Outcome}

@@ -10,7 +10,7 @@ use crate::planned::{Entity, Names, Pick, Plan, PlannedOp};
 use crate::writing::with_label_ops;
 use cypher_syntax::{Arrow, EdgePattern, NodePattern, Pattern};
 use expr_eval::{EvalRefused, Row};
-use graph_record::GraphRead;
+use graph_reader::GraphRead;
 use graph_value::{Name, NoMemory};
 use sqlite_items::Items;
 use std::alloc::Global;

@@ -12,7 +12,7 @@ use crate::planned::Plan;
 use crate::target::{Target, is_alive, target_of};
 use crate::writing::delete_op;
 use expr_eval::{EvalRefused, Row};
-use graph_record::GraphRead;
+use graph_reader::GraphRead;
 use graph_value::{EdgeId, Name, NoMemory, Oid};
 use sqlite_items::Items;
 use std::alloc::Global;

@@ -8,7 +8,7 @@ use crate::planned::{Entity, Plan};
 use crate::writing::{is_null, prop_op, value_to_set};
 use cypher_syntax::Expr;
 use expr_eval::{EvalRefused, Row};
-use graph_record::GraphRead;
+use graph_reader::GraphRead;
 use graph_value::{Name, NoMemory, Value};
 use sqlite_items::Items;
 use std::alloc::Global;

@@ -6,7 +6,7 @@ ghost use Rattle.write_ops.specs.Placing as spec;
 use crate::planned::{Entity, Names, Pick};
 use crate::target::{Target, alive, bound};
 use expr_eval::{EvalRefused, Row};
-use graph_record::GraphRead;
+use graph_reader::GraphRead;
 use graph_value::{Name, NoMemory, Oid};
 use std::alloc::AllocError;
 

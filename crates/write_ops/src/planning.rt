@@ -8,7 +8,7 @@ use crate::planned::Plan;
 use crate::setting::{remove, set};
 use cypher_syntax::{Pattern, Update};
 use expr_eval::{EvalRefused, Row};
-use graph_record::GraphRead;
+use graph_reader::GraphRead;
 use std::alloc::Global;
 
 fn create_ops<G: GraphRead>(

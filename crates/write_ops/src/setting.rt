@@ -10,7 +10,7 @@ use crate::target::{Target, alive, target_of};
 use crate::writing::{known, prop_op, value_to_set, with_label_ops};
 use cypher_syntax::{RemoveItem, SetItem};
 use expr_eval::{EvalRefused, Row};
-use graph_record::GraphRead;
+use graph_reader::GraphRead;
 use graph_value::{Name, NoMemory, Oid, Value};
 use sqlite_items::Items;
 use std::alloc::Global;

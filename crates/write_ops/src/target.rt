@@ -4,7 +4,7 @@ ghost use Rattle.expr_eval.specs.Outcome.{Evaluates};
 ghost use Rattle.write_ops.specs.Targets as spec;
 
 use expr_eval::EvalRefused;
-use graph_record::GraphRead;
+use graph_reader::GraphRead;
 use graph_value::{Name, Oid, Value};
 
 /// What a clause may write to.

@@ -6,7 +6,7 @@ ghost use Rattle.write_ops.specs.Writing as spec;
 use crate::planned::{Entity, Pick, Plan, PlannedOp};
 use cypher_syntax::Expr;
 use expr_eval::{EvalRefused, Row, eval};
-use graph_record::GraphRead;
+use graph_reader::GraphRead;
 use graph_value::{Name, NoMemory, Oid, Value, storable};
 use std::alloc::Global;
 

@@ -4,7 +4,7 @@ use cypher_parse::parse;
 use cypher_syntax::{Clause, Query, Stage};
 use expr_eval::{EvalRefused, Row, Table};
 use expr_eval_tests::CountingReader;
-use graph_record::{show, to_json};
+use graph_reader::{show, to_json};
 use graph_value::{NoMemory, Text, Value};
 use row_ops::{project, unwind};
 use sqlite_items::Items;

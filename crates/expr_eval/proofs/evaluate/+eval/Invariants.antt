@@ -1,5 +1,5 @@
 use Rattle.std.proofs.Common.{map, drop}
-use Rattle.graph_record.specs.Reading.{Continues}
+use Rattle.graph_reader.specs.Reading.{Continues}
 use Rattle.expr_eval.specs.Eval.{eval_of, post_of, pred_of, behind, all_on, steps_on, joined_on, compared_on, summed_on, multiplied_on, values_of, joined_of, coalesced_of, compared_of, summed_of, multiplied_of, posts_of, preds_of, chosen_of}
 use Rattle.expr_eval.proofs.evaluate.+eval.Given as goal
 

@@ -1,5 +1,5 @@
 use Rattle.std.proofs.Common.{[], length}
-use Rattle.graph_record.specs.Reading.{Continues}
+use Rattle.graph_reader.specs.Reading.{Continues}
 use Rattle.row_ops.specs.Filtering.{kept_on}
 use Rattle.row_ops.proofs.filter.kept.Given as goal
 

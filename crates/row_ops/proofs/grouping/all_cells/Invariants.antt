@@ -1,5 +1,5 @@
 use Rattle.std.proofs.Common.{[], drop}
-use Rattle.graph_record.specs.Reading.{Continues}
+use Rattle.graph_reader.specs.Reading.{Continues}
 use Rattle.row_ops.specs.Grouping.{rows_on}
 use Rattle.row_ops.proofs.grouping.all_cells.Given as goal
 

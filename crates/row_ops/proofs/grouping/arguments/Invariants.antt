@@ -1,5 +1,5 @@
 use Rattle.std.proofs.Common.{map, drop}
-use Rattle.graph_record.specs.Reading.{Continues}
+use Rattle.graph_reader.specs.Reading.{Continues}
 use Rattle.expr_eval.specs.Eval.{eval_of, all_on, values_of}
 use Rattle.row_ops.proofs.grouping.arguments.Given as goal
 

@@ -1,5 +1,5 @@
 use Rattle.std.proofs.Common.{[], drop}
-use Rattle.graph_record.specs.Reading.{Continues}
+use Rattle.graph_reader.specs.Reading.{Continues}
 use Rattle.row_ops.specs.Grouping.{planned_on}
 use Rattle.row_ops.proofs.grouping.values.Given as goal
 

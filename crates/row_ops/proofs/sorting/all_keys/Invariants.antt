@@ -1,5 +1,5 @@
 use Rattle.std.proofs.Common.{map, drop}
-use Rattle.graph_record.specs.Reading.{Continues}
+use Rattle.graph_reader.specs.Reading.{Continues}
 use Rattle.expr_eval.specs.Eval.{all_on}
 use Rattle.row_ops.specs.Sorting.{key_of, all_keys}
 use Rattle.row_ops.proofs.sorting.all_keys.Given as goal

@@ -1,5 +1,5 @@
 use Rattle.std.proofs.Common.{length}
-use Rattle.graph_record.specs.Reading.{Continues}
+use Rattle.graph_reader.specs.Reading.{Continues}
 use Rattle.row_ops.specs.Sorting.{sorted_on, sorted_of}
 use Rattle.row_ops.proofs.sorting.sorted.Given as goal
 

@@ -1,5 +1,5 @@
 use Rattle.std.proofs.Common.{drop}
-use Rattle.graph_record.specs.Reading.{Continues}
+use Rattle.graph_reader.specs.Reading.{Continues}
 use Rattle.row_ops.specs.Unwinding.{unwound_on, unwound_of}
 use Rattle.row_ops.proofs.unwinding.unwound.Given as goal
 

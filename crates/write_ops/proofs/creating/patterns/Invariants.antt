@@ -1,5 +1,5 @@
 use Rattle.std.proofs.Common.{drop}
-use Rattle.graph_record.specs.Reading.{Continues}
+use Rattle.graph_reader.specs.Reading.{Continues}
 use Rattle.write_ops.specs.Creating.{pattern}
 use Rattle.write_ops.specs.Over.{over}
 use Rattle.write_ops.proofs.creating.patterns.Given as goal

@@ -1,5 +1,5 @@
 use Rattle.std.proofs.Common.{drop}
-use Rattle.graph_record.specs.Reading.{Continues}
+use Rattle.graph_reader.specs.Reading.{Continues}
 use Rattle.write_ops.specs.Setting.{remove_row, remove_of}
 use Rattle.write_ops.specs.Over.{over}
 use Rattle.write_ops.proofs.setting.remove.Given as goal

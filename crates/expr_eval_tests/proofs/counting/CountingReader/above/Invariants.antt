@@ -1,5 +1,5 @@
 use Rattle.std.proofs.Common.{◌≡◌, drop}
-use Rattle.graph_record.specs.Alive.{first_above}
+use Rattle.graph_reader.specs.Alive.{first_above}
 use Rattle.expr_eval_tests.proofs.counting.CountingReader.above.Given as goal
 
 abbrev pub invariant-loop-known : goal.invariant-loop-known

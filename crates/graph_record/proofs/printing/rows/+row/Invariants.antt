@@ -1,9 +1,0 @@
-use Rattle.std.proofs.Common.{◌∷◌, map, take}
-use Rattle.json.specs.Token.{begin_array}
-use Rattle.graph_record.specs.Rows.{shown_data}
-use Rattle.graph_record.proofs.Tokens.{Wrote, elements}
-use Rattle.graph_record.proofs.printing.rows.+row.Given as goal
-
--- what is written so far
-abbrev pub invariant-write_row-loop-item : goal.invariant-write_row-loop-item
-invariant-write_row-loop-item l = Wrote l.fn.writer l.writer (begin_array ∷ elements (map shown_data (take l.item-index l.row)))

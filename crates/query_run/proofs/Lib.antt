@@ -1,0 +1,4 @@
+pub mod Loops
+pub mod Moves
+pub mod ReadCalls
+pub mod WriteCalls

@@ -1,0 +1,6 @@
+pub mod Parts
+pub mod Asked
+pub mod Named
+pub mod Shown
+pub mod Denoted
+pub mod Running

@@ -1,0 +1,15 @@
+//! Whole queries, run on any store for a caller's open transaction, clause by clause over what the transaction sees.
+#![tactic(auto)]
+
+mod access;
+mod asking;
+mod clauses;
+mod named;
+mod reading;
+mod running;
+mod shown;
+mod stop;
+
+pub use running::run;
+pub use shown::Rows;
+pub use stop::Stop;

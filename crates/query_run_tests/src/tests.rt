@@ -1,0 +1,99 @@
+mod rows;
+mod running;
+
+ghost use Rattle.std.specs.Prelude.{◌≡◌};
+
+use front_core::Core;
+use graph_value::NoMemory;
+use rows::{READS, STOPS, Statement, WRITES};
+use running::text_of;
+use std::alloc::{AllocError, Global};
+use std::test::Fail;
+use store_pass::Solo;
+use world_model::{GraphStore, Txn};
+
+/// The first of the statements of a transaction that comes to something else, with what it comes to.
+fn first_wrong<S: GraphStore>(
+    alloc: Global,
+    store: &mut S,
+    rt: &S::Rt,
+    txn: &Txn,
+    statements: &[Statement],
+) -> Result<Option<String>, NoMemory>
+    ensures stays { S.running store.new ≡ S.running store.old }
+{
+    for (statement, wanted) in statements {
+        let found = text_of(alloc, store, rt, txn, statement)?;
+        if found.as_str() != *wanted {
+            return Ok(Some(format!(in alloc; "{statement}: {found}")?));
+        }
+    }
+    Ok(None)
+}
+
+/// The same, in a transaction of a new store.
+fn wrong_in_one(alloc: Global, statements: &[Statement]) -> Result<Option<String>, NoMemory> {
+    let mut core = Core::new(alloc, 1)?;
+    let mut store = Solo::over(&mut core, 1);
+    let Ok(txn) = store.begin(&(), alloc) else {
+        return Err(AllocError);
+    };
+    let wrong = first_wrong(alloc, &mut store, &(), &txn, statements);
+    let _ts = store.commit(&(), alloc, txn);
+    wrong
+}
+
+#[test]
+fn clauses_read_what_those_before_have_written(rt: HostRuntime) -> Result<(), Fail> {
+    let wrong = wrong_in_one(rt.alloc(), &WRITES)?;
+    assert!(rt; wrong.is_none(), "{wrong:?}");
+    Ok(())
+}
+
+#[test]
+fn rows_are_shown_by_the_graph_behind_all_clauses(rt: HostRuntime) -> Result<(), Fail> {
+    let wrong = wrong_in_one(rt.alloc(), &READS)?;
+    assert!(rt; wrong.is_none(), "{wrong:?}");
+    Ok(())
+}
+
+#[test]
+fn refusals_stop_a_query(rt: HostRuntime) -> Result<(), Fail> {
+    let wrong = wrong_in_one(rt.alloc(), &STOPS)?;
+    assert!(rt; wrong.is_none(), "{wrong:?}");
+    Ok(())
+}
+
+/// One caller runs a statement in a transaction of its own, which it commits.
+fn done(alloc: Global, core: &mut Core, caller: u64, statement: &str) -> Result<String, NoMemory> {
+    let mut store = Solo::over(core, caller);
+    let Ok(txn) = store.begin(&(), alloc) else {
+        return Err(AllocError);
+    };
+    let found = text_of(alloc, &mut store, &(), &txn, statement);
+    let _ts = store.commit(&(), alloc, txn);
+    found
+}
+
+#[test]
+fn a_rival_is_named(rt: HostRuntime) -> Result<(), Fail> {
+    let alloc = rt.alloc();
+    let mut core = Core::new(alloc, 1)?;
+    let _made = done(alloc, &mut core, 1, "CREATE (a {k: 1}), (b {k: 1})")?;
+    let mut first = Solo::over(&mut core, 1);
+    let Ok(txn) = first.begin(&(), alloc) else {
+        return Err(Fail::from(AllocError));
+    };
+    let written = done(
+        alloc,
+        &mut core,
+        2,
+        "MATCH (n) WHERE id(n) = 1 SET n.k = 2 RETURN n.k",
+    );
+    let mut first = Solo::over(&mut core, 1);
+    let found = text_of(alloc, &mut first, &(), &txn, "MATCH (n) SET n.k = 3");
+    let _start = txn.end();
+    assert_eq!(rt; written?.as_str(), "[2]");
+    assert_eq!(rt; found?.as_str(), "!conflict v1 committed 5");
+    Ok(())
+}
