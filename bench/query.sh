@@ -19,8 +19,8 @@ set -euo pipefail
 cd "$(dirname "$0")/.."
 program=crates/query_bench/out/query_bench
 sizes=(1000 10000 100000)
-times=2000
-tries=5
+times=20000
+tries=10
 
 if [ ! -x "$program" ]; then
     echo "no $program: run 'rt run' in crates/query_bench first" >&2

@@ -2,6 +2,7 @@ pub mod ColumnLemmas
 pub mod GroupLemmas
 pub mod KeysLemmas
 pub mod Moved
+pub mod NameLemmas
 pub mod PairLemmas
 pub mod Parts
 pub mod SortLemmas

@@ -1,6 +1,7 @@
 pub mod Unwinding
 pub mod Columns
 pub mod Making
+pub mod Names
 pub mod Distinct
 pub mod Sorting
 pub mod Filtering

@@ -17,7 +17,7 @@ use Rattle.expr_eval.specs.Outcome.{Outcome, and_then}
 use Rattle.expr_eval.specs.Row.{Row}
 use Rattle.row_ops.specs.declared.made.Made.{Made}
 use Rattle.row_ops.specs.declared.sorting.Keyed.{Keyed}
-use Rattle.row_ops.specs.Making.{seen}
+use Rattle.row_ops.specs.Making.{after, seen}
 
 -- THE KEYS OF A ROW
 
@@ -41,11 +41,11 @@ all_keys g items vs row sorts = all_on [] (map (key_of g items vs row) sorts)
 abbrev pub keys_of : Graph → Projection → Made → Outcome (List Value)
 keys_of g p made = all_keys g p.items made.values (seen p made) p.sort
 
--- row by row, behind the rows that are there
+-- each row as the projection gives it, with its keys, behind the rows that are there
 abbrev pub keyed_on : Graph → Projection → List Keyed → List Made → Outcome (List Keyed)
 keyed_on g p done [] = Ok done
 keyed_on g p done (made ∷ rows) =
-    and_then (keys_of g p made) (λ keys. keyed_on g p (done ++ (record { keys = keys; made = made }) ∷ []) rows)
+    and_then (keys_of g p made) (λ keys. keyed_on g p (done ++ (record { keys = keys; row = after p made }) ∷ []) rows)
 
 -- THE ORDER
 
@@ -74,13 +74,13 @@ abbrev pub in_order : {X : Type 0} → (X → X → Bool) → List X → List X
 in_order lt [] = []
 in_order lt (x ∷ xs) = placed lt x (in_order lt xs)
 
-abbrev pub rows_in_order : List Sort → List Keyed → List Made
-rows_in_order sorts keyed = map (λ k. k.made) (in_order (is_before sorts) keyed)
+abbrev pub rows_in_order : List Sort → List Keyed → List Row
+rows_in_order sorts keyed = map (λ k. k.row) (in_order (is_before sorts) keyed)
 
 -- behind the rows that have their keys already
-abbrev pub sorted_on : Graph → Projection → List Keyed → List Made → Outcome (List Made)
+abbrev pub sorted_on : Graph → Projection → List Keyed → List Made → Outcome (List Row)
 sorted_on g p keyed rows = and_then (keyed_on g p keyed rows) (λ keyed. Ok (rows_in_order p.sort keyed))
 
 -- the rows in order; without sort keys they stay as they are
-abbrev pub sorted_of : Graph → Projection → List Made → Outcome (List Made)
+abbrev pub sorted_of : Graph → Projection → List Made → Outcome (List Row)
 sorted_of g p rows = sorted_on g p [] rows

@@ -7,6 +7,7 @@ mod compiling;
 mod filter;
 mod grouping;
 mod made;
+mod names;
 mod nodes;
 mod once;
 mod projection;

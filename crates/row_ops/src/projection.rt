@@ -4,7 +4,6 @@ ghost use Rattle.expr_eval.specs.Outcome.{Evaluates};
 ghost use Rattle.row_ops.specs.Distinct as once;
 ghost use Rattle.row_ops.specs.Making as making;
 ghost use Rattle.row_ops.specs.Projecting as spec;
-ghost use Rattle.row_ops.specs.Sorting as sorting;
 
 use crate::filter::filtered;
 use crate::grouping::grouped;
@@ -14,7 +13,7 @@ use crate::queues::queue;
 use crate::sorting::sorted;
 use cypher_check::has_aggregate;
 use cypher_syntax::{Item, Projection};
-use expr_eval::{EvalRefused, Table};
+use expr_eval::{EvalRefused, Row, Table};
 use graph_reader::GraphRead;
 use graph_value::NoMemory;
 use sqlite_items::Items;
@@ -55,28 +54,12 @@ fn kept_once(alloc: Global, p: &Projection, rows: Items<Made>) -> Result<Items<M
     }
 }
 
-/// The rows in order. Where no order is asked, they aren't touched.
-fn ordered<G: GraphRead>(
-    alloc: Global,
-    p: &Projection,
-    rows: Items<Made>,
-    graph: &mut G,
-) -> Result<Items<Made>, EvalRefused>
-    ensures { Evaluates G.stands G.follows (λ g. sorting.sorted_of g p.now rows)
-        graph.old graph.new result }
-{
-    if p.sort.is_empty() {
-        return Ok(rows);
-    }
-    sorted(alloc, p, rows, graph)
-}
-
 /// The rows behind those that SKIP leaves out.
-fn skipped(
+fn skipped<T: Drop>(
     alloc: Global,
-    mut rows: VecDeque<Made>,
+    mut rows: VecDeque<T>,
     skip: Option<u64>,
-) -> Result<VecDeque<Made>, NoMemory>
+) -> Result<VecDeque<T>, NoMemory>
     ensures { IfOk result (λ left. left.items ≡ spec.skipped skip rows.items) }
 {
     match skip {
@@ -87,7 +70,7 @@ fn skipped(
 }
 
 /// The rows that LIMIT leaves.
-fn limited(mut rows: VecDeque<Made>, limit: Option<u64>) -> VecDeque<Made>
+fn limited<T: Drop>(mut rows: VecDeque<T>, limit: Option<u64>) -> VecDeque<T>
     ensures { result.items ≡ spec.limited_to limit rows.items }
 {
     if let Some(count) = limit {
@@ -96,13 +79,12 @@ fn limited(mut rows: VecDeque<Made>, limit: Option<u64>) -> VecDeque<Made>
     rows
 }
 
-/// The rows that SKIP and LIMIT leave, as the projection gives them.
-fn cut(alloc: Global, p: &Projection, rows: Items<Made>) -> Result<Table, NoMemory>
-    ensures { IfOk result (λ table. table ≡ map (making.after p.now)
-        (spec.limited_to p.now.limit (spec.skipped p.now.skip rows))) }
+/// The rows that SKIP and LIMIT leave.
+fn cut<T: Drop>(alloc: Global, p: &Projection, rows: Items<T>) -> Result<VecDeque<T>, NoMemory>
+    ensures { IfOk result (λ left. left.items ≡ spec.cut p.now rows) }
 {
     let rows = skipped(alloc, queue(alloc, rows)?, p.skip)?;
-    given(alloc, p, limited(rows, p.limit))
+    Ok(limited(rows, p.limit))
 }
 
 /// The rows as the projection gives them.
@@ -114,6 +96,46 @@ fn given(alloc: Global, p: &Projection, mut left: VecDeque<Made>) -> Result<Tabl
         table.push(after(alloc, p, made)?)?;
     }
     Ok(table)
+}
+
+/// The rows in a list of their own.
+fn listed(alloc: Global, mut left: VecDeque<Row>) -> Result<Table, NoMemory>
+    ensures { IfOk result (λ table. table ≡ left.items) }
+{
+    let mut table = Items::new(alloc);
+    while let Some(row) = left.pop_front() {
+        table.push(row)?;
+    }
+    Ok(table)
+}
+
+/// What SKIP and LIMIT leave of a table. Without them it isn't touched.
+fn cut_table(alloc: Global, p: &Projection, table: Table) -> Result<Table, NoMemory>
+    ensures { IfOk result (λ t. t ≡ spec.cut p.now table) }
+{
+    match (p.skip, p.limit) {
+        (None, None) => Ok(table),
+        _ => listed(alloc, cut(alloc, p, table)?),
+    }
+}
+
+/// The rows in order, as far as SKIP and LIMIT leave them. Where no order is asked, only these are made.
+fn ordered<G: GraphRead>(
+    alloc: Global,
+    p: &Projection,
+    rows: Items<Made>,
+    graph: &mut G,
+) -> Result<Table, EvalRefused>
+    ensures { Evaluates G.stands G.follows (λ g. spec.ordered_of g p.now rows)
+        graph.old graph.new result }
+{
+    match p.sort.as_slice() {
+        [] => Ok(given(alloc, p, cut(alloc, p, rows)?)?),
+        [first, others @ ..] => {
+            let table = sorted(alloc, p, first, others, rows, graph)?;
+            Ok(cut_table(alloc, p, table)?)
+        }
+    }
 }
 
 /// The table behind a WITH or RETURN.
@@ -128,7 +150,6 @@ pub fn project<G: GraphRead>(
 {
     let rows = rows(alloc, projection.items.as_slice(), table, graph)?;
     let rows = kept_once(alloc, projection, rows)?;
-    let rows = ordered(alloc, projection, rows, graph)?;
-    let table = cut(alloc, projection, rows)?;
+    let table = ordered(alloc, projection, rows, graph)?;
     filtered(alloc, &projection.filter, table, graph)
 }

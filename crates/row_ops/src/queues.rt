@@ -9,7 +9,7 @@ use std::collections::VecDeque;
 pub(crate) fn queue<T: Drop>(alloc: Global, mut items: Items<T>) -> Result<VecDeque<T>, NoMemory>
     ensures { IfOk result (λ q. q.items ≡ items) }
 {
-    let mut queue = VecDeque::new(alloc);
+    let mut queue = VecDeque::with_capacity(alloc, items.len())?;
     while let Some(last) = items.pop() {
         queue.push_front(last)?;
     }

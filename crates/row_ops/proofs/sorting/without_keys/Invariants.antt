@@ -1,8 +1,8 @@
 use Rattle.std.proofs.Common.{◌≡◌, ◌++◌, map, length}
 use Rattle.row_ops.proofs.sorting.without_keys.Given as goal
 
-abbrev pub invariant-loop-made : goal.invariant-loop-made
-invariant-loop-made l = l.rows ++ map (λ k. k.made) l.left.items ≡ map (λ k. k.made) l.fn.keyed.items
+abbrev pub invariant-loop-row : goal.invariant-loop-row
+invariant-loop-row l = l.rows.items ++ map (λ k. k.row) l.left.items ≡ map (λ k. k.row) l.fn.keyed.items
 
-abbrev pub decreases-loop-made : goal.decreases-loop-made
-decreases-loop-made l = length l.left.items
+abbrev pub decreases-loop-row : goal.decreases-loop-row
+decreases-loop-row l = length l.left.items

@@ -1,6 +1,6 @@
 use Rattle.std.proofs.Common.{sym, ◌∙◌}
 use Rattle.row_ops.proofs.KeysLemmas.{keys_step, level_on, told_by, differs, is_level}
-use Rattle.row_ops.proofs.sorting.compare.Goals as goal
+use Rattle.row_ops.proofs.sorting.compare_others.Goals as goal
 
 pub returns-then-ne : goal.returns-then-ne
 returns-then-ne c =
