@@ -71,7 +71,7 @@ fn a_sweep_that_is_overtaken_goes_on(rt: HostRuntime) -> Result<(), Fail> {
     let alloc = rt.alloc();
     let mut core = Core::new(alloc, 2)?;
     assert!(rt; are_done(alloc, &mut core, &MADE)?);
-    let mut store = Solo::over(&mut core, 9);
+    let mut store = Solo::over(core, 9);
     let (told, other) = overtaken(&(), alloc, &mut store);
     let first = Oid::Vertex(VertexId(0));
     let second = Oid::Vertex(VertexId(1));
@@ -98,7 +98,7 @@ fn an_older_piece_comes_too_late(rt: HostRuntime) -> Result<(), Fail> {
     let alloc = rt.alloc();
     let mut core = Core::new(alloc, 2)?;
     assert!(rt; are_done(alloc, &mut core, &MADE)?);
-    let mut store = Solo::over(&mut core, 9);
+    let mut store = Solo::over(core, 9);
     let told = installed_twice(&(), alloc, &mut store, Oid::Vertex(VertexId(0)));
     assert_eq!(rt; told, Some((true, Some(3))));
     Ok(())

@@ -61,7 +61,7 @@ fn look(object: &Object) -> Seen {
 }
 
 /// Whether all is seen so.
-fn all_seen(alloc: Global, store: &mut Solo<'_>, txn: &Txn, looks: &[(Oid, u64, Seen)]) -> bool {
+fn all_seen(alloc: Global, store: &mut Solo, txn: &Txn, looks: &[(Oid, u64, Seen)]) -> bool {
     for (x, t, wanted) in looks {
         let read = store.read(&(), alloc, txn, *x, When::At(*t));
         let told = match &read {
@@ -78,7 +78,7 @@ fn all_seen(alloc: Global, store: &mut Solo<'_>, txn: &Txn, looks: &[(Oid, u64, 
 /// Whether all is seen so before a sweep and behind it, and what the sweep tells.
 fn swept_between(
     alloc: Global,
-    core: &mut Core,
+    core: Core,
     looks: &[(Oid, u64, Seen)],
 ) -> Result<(bool, Option<Swept>, bool), NoMemory> {
     let mut store = Solo::over(core, 3);
@@ -97,7 +97,7 @@ fn the_past_reads_the_same_behind_a_sweep(rt: HostRuntime) -> Result<(), Fail> {
     let alloc = rt.alloc();
     let mut core = Core::new(alloc, 2)?;
     assert!(rt; are_done(alloc, &mut core, &CHANGED)?);
-    let (before, swept, behind) = swept_between(alloc, &mut core, &LOOKS)?;
+    let (before, swept, behind) = swept_between(alloc, core, &LOOKS)?;
     assert!(rt; before && behind);
     let wanted = Swept {
         mark: 5,

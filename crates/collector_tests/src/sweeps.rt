@@ -47,29 +47,23 @@ static HELD: [Act; 8] = [
 /// It ends.
 static LET_GO: [Act; 1] = [(2, Deed::Commit)];
 
-fn sweep(alloc: Global, core: &mut Core) -> Result<Swept, NoMemory> {
-    let mut store = Solo::over(core, 9);
-    sweep_all(&(), alloc, &mut store)
-}
-
 /// The deltas in chains and in histories, and the blocks.
-fn counts(alloc: Global, core: &mut Core) -> (u64, u64, u64) {
-    let mut store = Solo::over(core, 9);
-    let stats = store.stats(&(), alloc);
-    (stats.chain, stats.history, stats.blocks)
-}
+type Counts = (u64, u64, u64);
 
-/// What a sweep tells behind these acts, and what it leaves.
+/// What a sweep tells and leaves behind these acts, unless one of them is refused; and the core behind it.
 fn swept(
     alloc: Global,
-    core: &mut Core,
+    mut core: Core,
     acts: &[Act],
-) -> Result<Option<(Swept, (u64, u64, u64))>, NoMemory> {
-    if !are_done(alloc, core, acts)? {
-        return Ok(None);
+) -> Result<(Core, Option<(Swept, Counts)>), NoMemory> {
+    if !are_done(alloc, &mut core, acts)? {
+        return Ok((core, None));
     }
-    let swept = sweep(alloc, core)?;
-    Ok(Some((swept, counts(alloc, core))))
+    let mut store = Solo::over(core, 9);
+    let swept = sweep_all(&(), alloc, &mut store)?;
+    let stats = store.stats(&(), alloc);
+    let counts = (stats.chain, stats.history, stats.blocks);
+    Ok((store.into_core(), Some((swept, counts))))
 }
 
 fn moved(mark: u64, moved: u64) -> Swept {
@@ -83,25 +77,19 @@ fn moved(mark: u64, moved: u64) -> Swept {
 #[test]
 fn nothing_is_moved_where_nothing_has_expired(rt: HostRuntime) -> Result<(), Fail> {
     let alloc = rt.alloc();
-    let mut core = Core::new(alloc, 2)?;
-    assert_eq!(rt;
-        swept(alloc, &mut core, &[])?,
-        Some((moved(1, 0), (0, 0, 0)))
-    );
-    assert_eq!(rt;
-        swept(alloc, &mut core, &ABORTED)?,
-        Some((moved(2, 0), (0, 0, 0)))
-    );
+    let (core, first) = swept(alloc, Core::new(alloc, 2)?, &[])?;
+    assert_eq!(rt; first, Some((moved(1, 0), (0, 0, 0))));
+    let (_core, second) = swept(alloc, core, &ABORTED)?;
+    assert_eq!(rt; second, Some((moved(2, 0), (0, 0, 0))));
     Ok(())
 }
 
 #[test]
 fn what_has_expired_is_moved_once(rt: HostRuntime) -> Result<(), Fail> {
     let alloc = rt.alloc();
-    let mut core = Core::new(alloc, 2)?;
-    let first = swept(alloc, &mut core, &CHANGED)?;
+    let (core, first) = swept(alloc, Core::new(alloc, 2)?, &CHANGED)?;
     assert_eq!(rt; first, Some((moved(5, 13), (0, 13, 7))));
-    let second = swept(alloc, &mut core, &[])?;
+    let (_core, second) = swept(alloc, core, &[])?;
     assert_eq!(rt; second, Some((moved(5, 0), (0, 13, 7))));
     Ok(())
 }
@@ -109,12 +97,11 @@ fn what_has_expired_is_moved_once(rt: HostRuntime) -> Result<(), Fail> {
 #[test]
 fn an_open_transaction_holds_the_mark(rt: HostRuntime) -> Result<(), Fail> {
     let alloc = rt.alloc();
-    let mut core = Core::new(alloc, 2)?;
-    let first = swept(alloc, &mut core, &HELD)?;
+    let (core, first) = swept(alloc, Core::new(alloc, 2)?, &HELD)?;
     assert_eq!(rt; first, Some((moved(3, 2), (1, 2, 1))));
-    let second = swept(alloc, &mut core, &[])?;
+    let (core, second) = swept(alloc, core, &[])?;
     assert_eq!(rt; second, Some((moved(3, 0), (1, 2, 1))));
-    let third = swept(alloc, &mut core, &LET_GO)?;
+    let (_core, third) = swept(alloc, core, &LET_GO)?;
     assert_eq!(rt; third, Some((moved(6, 1), (0, 3, 2))));
     Ok(())
 }

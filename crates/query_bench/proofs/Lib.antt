@@ -1,3 +1,1 @@
-mod Pushed
-mod Quoted
 pub mod Coherent

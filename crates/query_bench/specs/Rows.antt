@@ -1,21 +1,18 @@
 -- The lines that answer a statement with its rows.
-use Rattle.std.specs.Prelude.{◌≡◌, ◌⊎◌, ℕ, List, [], ◌∷◌, ◌++◌, true, false, codes, None, Result, Ok, Err, length}
+use Rattle.std.specs.Prelude.{◌≡◌, ◌⊎◌, ℕ, List, ◌++◌, true, false, codes, None, Result, Ok, Err, length}
 use Rattle.std.specs.Fmt.{decimal}
 use Rattle.std.specs.Str.{IsUtf8}
 use Rattle.cypher_check.specs.Verdict.{verdict, writes, is_timed}
 use Rattle.cypher_parse.specs.Whole.{IsParse}
 use Rattle.cypher_syntax.specs.declared.tree.query.Query.{Query}
-use Rattle.expr_eval.specs.declared.refused.EvalRefused.{EvalRefused}
-use Rattle.expr_eval.specs.declared.refused.EvalRefused.TheVariants as refused
 use Rattle.expr_eval.specs.Outcome.{Answers}
 use Rattle.graph_reader.specs.declared.shown.Shown.{Shown}
 use Rattle.graph_record.specs.Graph.{Graph}
-use Rattle.graph_reader.specs.Rows.{row_text}
-use Rattle.graph_value.specs.Id.{oid_text}
 use Rattle.query_bench.specs.declared.asking.NoRows.{NoRows}
 use Rattle.query_bench.specs.declared.asking.NoRows.TheVariants as no_rows
 use Rattle.query_bench.specs.Answered.{answered}
-use Rattle.query_bench.specs.Reply.{IsAnswer, fault_text}
+use Rattle.query_reply.specs.Faults.{IsExamined, fault_text}
+use Rattle.query_reply.specs.Rows.{refused_text, row_lines}
 
 -- WHAT IS ANSWERED
 
@@ -32,24 +29,10 @@ IsRun g q (Err (no_rows.Refused why)) = (writes q ≡ false) × (is_timed q.time
 
 -- what the query comes to that the statement is, or the statement's first fault
 abbrev pub IsAsked : Graph → List ℕ → Answer → Type 0
-IsAsked g statement (Err (no_rows.Fault why)) = IsAnswer statement (Err why)
+IsAsked g statement (Err (no_rows.Fault why)) = IsExamined statement (Err why)
 IsAsked g statement answer = (q : Query) × IsParse statement (Ok q) × (verdict q ≡ None) × IsRun g q answer
 
 -- ITS TEXT
-
-abbrev pub refused_text : EvalRefused → List ℕ
-refused_text refused.TypeFault = codes "ERR 5 type"
-refused_text refused.Overflow = codes "ERR 6 overflow"
-refused_text refused.ZeroDivisor = codes "ERR 7 zero divisor"
-refused_text refused.TooLarge = codes "ERR 14 too large"
-refused_text refused.RowLimit = codes "ERR 14 row limit"
-refused_text (refused.Gone x) = codes "ERR 17 gone " ++ oid_text x
-refused_text refused.NoMemory = codes "ERR 16 no memory"
-
--- each row with its line end
-abbrev pub row_lines : List (List Shown) → List ℕ
-row_lines [] = []
-row_lines (row ∷ rows) = (row_text row ++ codes "\n") ++ row_lines rows
 
 abbrev pub rows_text : List (List Shown) → List ℕ
 rows_text rows = row_lines rows ++ (codes "OK " ++ decimal (length rows))

@@ -1,9 +1,9 @@
 ghost use Rattle.std.specs.Prelude.{OnOk, string_bytes};
 ghost use Rattle.query_bench.specs.Reply.{AnswersLine};
 
-use crate::fault::examine;
 use crate::push::push_answer;
 use graph_value::{NoMemory, Text};
+use query_reply::examine;
 use std::alloc::Global;
 use std::str;
 

@@ -7,13 +7,13 @@ ghost use Rattle.graph_reader.specs.Reading.{Reads};
 ghost use Rattle.query_bench.specs.Answered as spec;
 ghost use Rattle.query_bench.specs.Rows.{IsAsked, IsRun};
 
-use crate::fault::{Fault, examine};
 use crate::running::run;
-use crate::showing::{ShownRow, show_rows};
+use crate::showing::show_rows;
 use cypher_syntax::{Clause, Query, Stage, Time};
 use expr_eval::EvalRefused;
 use graph_reader::GraphRead;
 use graph_value::Text;
+use query_reply::{Fault, ShownRow, examine};
 use sqlite_items::Items;
 use std::alloc::Global;
 

@@ -14,7 +14,6 @@ mod answer_rows;
 mod asking;
 mod coherence;
 mod draft;
-mod fault;
 mod lines;
 mod push;
 mod push_rows;

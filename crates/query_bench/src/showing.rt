@@ -6,11 +6,9 @@ ghost use Rattle.query_bench.specs.Answered as spec;
 use expr_eval::{EvalRefused, Row};
 use graph_reader::{GraphRead, ShowRefused, Shown, show};
 use graph_value::{Name, Value};
+use query_reply::ShownRow;
 use sqlite_items::Items;
 use std::alloc::Global;
-
-/// The values of a row, as they are shown.
-pub type ShownRow = Items<Shown>;
 
 #[tactic(auto, unfolding(crate::specs::Answered::value_shown))]
 fn show_value<G: GraphRead>(

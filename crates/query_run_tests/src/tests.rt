@@ -33,8 +33,7 @@ fn first_wrong<S: GraphStore>(
 
 /// The same, in a transaction of a new store.
 fn wrong_in_one(alloc: Global, statements: &[Statement]) -> Result<Option<String>, NoMemory> {
-    let mut core = Core::new(alloc, 1)?;
-    let mut store = Solo::over(&mut core, 1);
+    let mut store = Solo::over(Core::new(alloc, 1)?, 1);
     let Ok(txn) = store.begin(&(), alloc) else {
         return Err(AllocError);
     };
@@ -65,12 +64,12 @@ fn refusals_stop_a_query(rt: HostRuntime) -> Result<(), Fail> {
 }
 
 /// One caller runs a statement in a transaction of its own, which it commits.
-fn done(alloc: Global, core: &mut Core, caller: u64, statement: &str) -> Result<String, NoMemory> {
-    let mut store = Solo::over(core, caller);
+fn done(alloc: Global, store: &mut Solo, caller: u64, statement: &str) -> Result<String, NoMemory> {
+    store.turn_to(caller);
     let Ok(txn) = store.begin(&(), alloc) else {
         return Err(AllocError);
     };
-    let found = text_of(alloc, &mut store, &(), &txn, statement);
+    let found = text_of(alloc, store, &(), &txn, statement);
     let _ts = store.commit(&(), alloc, txn);
     found
 }
@@ -78,20 +77,19 @@ fn done(alloc: Global, core: &mut Core, caller: u64, statement: &str) -> Result<
 #[test]
 fn a_rival_is_named(rt: HostRuntime) -> Result<(), Fail> {
     let alloc = rt.alloc();
-    let mut core = Core::new(alloc, 1)?;
-    let _made = done(alloc, &mut core, 1, "CREATE (a {k: 1}), (b {k: 1})")?;
-    let mut first = Solo::over(&mut core, 1);
-    let Ok(txn) = first.begin(&(), alloc) else {
+    let mut store = Solo::over(Core::new(alloc, 1)?, 1);
+    let _made = done(alloc, &mut store, 1, "CREATE (a {k: 1}), (b {k: 1})")?;
+    let Ok(txn) = store.begin(&(), alloc) else {
         return Err(Fail::from(AllocError));
     };
     let written = done(
         alloc,
-        &mut core,
+        &mut store,
         2,
         "MATCH (n) WHERE id(n) = 1 SET n.k = 2 RETURN n.k",
     );
-    let mut first = Solo::over(&mut core, 1);
-    let found = text_of(alloc, &mut first, &(), &txn, "MATCH (n) SET n.k = 3");
+    store.turn_to(1);
+    let found = text_of(alloc, &mut store, &(), &txn, "MATCH (n) SET n.k = 3");
     let _start = txn.end();
     assert_eq!(rt; written?.as_str(), "[2]");
     assert_eq!(rt; found?.as_str(), "!conflict v1 committed 5");

@@ -32,9 +32,9 @@ unfolding Rattle.world_model.specs.Sending.are_of_others
 goes_alone e es = record { others = []; parts = ap (λ os. os ++ e ∷ []) (sym (append-nil es)); apart = refl; nobody = λ yes. refl }
 
 -- one step of the core is one event of the caller
-pub sends : (old new : Solo) (e : Event) (r : Reply) → new.caller ≡ old.caller → StandsForSome old.core.now →
-    Steps old.core.now new.core.now old.caller e r →
-    Sends (λ (k : Solo) s es. StandsFor s k.core.now es) (λ (k : Solo). k.caller) (λ (k : Solo). true) e r old new
+pub sends : (old new : Solo) (e : Event) (r : Reply) → new.caller ≡ old.caller → StandsForSome old.core →
+    Steps old.core new.core old.caller e r →
+    Sends (λ (k : Solo) s es. StandsFor s k.core es) (λ (k : Solo). k.caller) (λ (k : Solo). true) e r old new
 sends old new e r same some steps = record {
   goes_on = λ s es st may. (es ++ entry old.caller e r ∷ [], goes_alone (entry old.caller e r) es, steps s es st may);
   some = record { start = some.start; entries = some.entries; stood = some.stood };

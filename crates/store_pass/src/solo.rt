@@ -1,10 +1,12 @@
-//! A core that one caller has for itself.
-ghost use Rattle.std.specs.Prelude.{◌≡◌, true};
+//! A core that one caller at a time has for itself.
+ghost use Rattle.std.specs.Prelude.{◌≡◌, ◌↔◌, List, true};
 ghost use Rattle.front_core.specs.Keeps.{StandsFor, open_in};
 ghost use Rattle.store_pass.specs.Alone.{solo_legal, solo_opened};
+ghost use Rattle.world_model.specs.History.{Entry};
 ghost use Rattle.world_model.specs.Replies.{IsRefusal};
 ghost use Rattle.world_model.specs.Reply.{reply_of};
 ghost use Rattle.world_model.specs.Reply as reply;
+ghost use Rattle.world_model.specs.World.{Start};
 
 use anchor_store::finished;
 use front_core::Core;
@@ -29,39 +31,62 @@ fn refusal(answer: Answer) -> Refused
     }
 }
 
-/// A core as one caller uses it, while nobody else does. It waits for nobody.
+/// A core as one caller at a time uses it, while nobody else does. It waits for nobody.
 #[derive(Drop)]
-pub struct Solo<'a> {
-    core: &'a mut Core,
+pub struct Solo {
+    core: Core,
     caller: u64,
 }
 
-impl<'a> Solo<'a> {
+impl Solo {
+    ghost use Rattle.store_pass.specs.Solo.{core_of};
+
     /// The core as the caller uses it. Takes no memory.
-    pub fn over(core: &'a mut Core, caller: u64) -> Solo<'a>
-        ensures core { result.core.now ≡ core.old }
-        ensures same_core { result.core.ghost_name ≡ core.entry.ghost_name }
-        ensures caller { result.caller ≡ caller }
+    pub fn over(core: Core, caller: u64) -> Solo
+        ensures core { core_of result ≡ core }
+        ensures caller { ⟦<Solo as GraphStore>⟧.caller result ≡ caller }
     {
         Solo { core, caller }
+    }
+
+    /// The same core for another caller. Takes no memory.
+    ///
+    /// What it stands for stays, and the open transaction is the one that the new caller has in the core.
+    pub fn turn_to(&mut self, caller: u64)
+        ensures core { core_of self.new ≡ core_of self.old }
+        ensures caller { ⟦<Solo as GraphStore>⟧.caller self.new ≡ caller }
+        ensures stands { (s : Start) (es : List Entry) →
+            (⟦<Solo as GraphStore>⟧.stands self.new s es)
+            ↔ (⟦<Solo as GraphStore>⟧.stands self.old s es) }
+        ensures running { ⟦<Solo as GraphStore>⟧.running self.new
+            ≡ open_in (core_of self.old) caller }
+    {
+        self.caller = caller;
+    }
+
+    /// Gives the core back. Takes no memory.
+    pub fn into_core(self) -> Core
+        ensures { result ≡ core_of self }
+    {
+        self.core
     }
 }
 
 /// Each call is one step of the core.
-impl<'a> GraphStore for Solo<'a> {
+impl GraphStore for Solo {
     type Rt = ();
 
-    ghost stands = { λ r s es. StandsFor s r.core.now es };
+    ghost stands = { λ r s es. StandsFor s r.core es };
 
     ghost caller = { λ r. r.caller };
 
     ghost alone = { λ r. true };
 
-    ghost running = { λ r. open_in r.core.now r.caller };
+    ghost running = { λ r. open_in r.core r.caller };
 
-    ghost legal = { λ r s es st. solo_legal r.core.now s es st };
+    ghost legal = { λ r s es st. solo_legal r.core s es st };
 
-    ghost runs = { λ r s es st. solo_opened r.core.now r.caller s es st };
+    ghost runs = { λ r s es st. solo_opened r.core r.caller s es st };
 
     fn begin(&mut self, _rt: &(), alloc: Global) -> Result<Txn, Refused> {
         match self.core.step(alloc, self.caller, Event::Begin) {

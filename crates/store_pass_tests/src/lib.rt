@@ -3,3 +3,5 @@
 
 #[cfg(test)]
 mod one_caller;
+#[cfg(test)]
+mod two_callers;

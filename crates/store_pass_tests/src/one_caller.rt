@@ -11,8 +11,7 @@ use undo_delta::Ask;
 use world_model::{GraphStore, Kind, Txn, When, Wrote};
 
 /// A vertex is made in a transaction, which is committed: what the write and the commit tell.
-fn made(alloc: Global, core: &mut Core) -> Result<(Option<Wrote>, u64), AllocError> {
-    let mut store = Solo::over(core, 1);
+pub fn made(alloc: Global, store: &mut Solo) -> Result<(Option<Wrote>, u64), AllocError> {
     let Ok(txn) = store.begin(&(), alloc) else {
         return Err(AllocError);
     };
@@ -22,8 +21,7 @@ fn made(alloc: Global, core: &mut Core) -> Result<(Option<Wrote>, u64), AllocErr
 }
 
 /// A transaction is aborted: what a search and a read have told in it.
-fn searched(alloc: Global, core: &mut Core) -> Result<(Option<u64>, bool), AllocError> {
-    let mut store = Solo::over(core, 1);
+fn searched(alloc: Global, store: &mut Solo) -> Result<(Option<u64>, bool), AllocError> {
     let Ok(txn) = store.begin(&(), alloc) else {
         return Err(AllocError);
     };
@@ -39,7 +37,7 @@ fn searched(alloc: Global, core: &mut Core) -> Result<(Option<u64>, bool), Alloc
 /// The first vertex that a view has, whether it has the vertex 0, and whether it has the edge 0.
 fn viewed(
     alloc: Global,
-    store: &mut Solo<'_>,
+    store: &mut Solo,
     txn: &Txn,
 ) -> Result<(Option<VertexId>, bool, bool), AllocError> {
     let mut view = ViewOf::new(alloc, &(), store, txn, When::Own);
@@ -50,12 +48,11 @@ fn viewed(
 }
 
 /// The same of what a transaction sees.
-fn looked(alloc: Global, core: &mut Core) -> Result<(Option<VertexId>, bool, bool), AllocError> {
-    let mut store = Solo::over(core, 2);
+fn looked(alloc: Global, store: &mut Solo) -> Result<(Option<VertexId>, bool, bool), AllocError> {
     let Ok(txn) = store.begin(&(), alloc) else {
         return Err(AllocError);
     };
-    let seen = viewed(alloc, &mut store, &txn);
+    let seen = viewed(alloc, store, &txn);
     let _start = txn.end();
     seen
 }
@@ -63,11 +60,10 @@ fn looked(alloc: Global, core: &mut Core) -> Result<(Option<VertexId>, bool, boo
 #[test]
 fn one_caller_writes_and_reads(rt: HostRuntime) -> Result<(), Fail> {
     let alloc = rt.alloc();
-    let mut core = Core::new(alloc, 2)?;
-    let (wrote, ts) = made(alloc, &mut core)?;
+    let mut store = Solo::over(Core::new(alloc, 2)?, 1);
+    let (wrote, ts) = made(alloc, &mut store)?;
     assert_eq!(rt; wrote, Some(Wrote::Vertex(VertexId(0))));
     assert_eq!(rt; ts, 2);
-    let mut store = Solo::over(&mut core, 1);
     let marked = store.mark(&(), alloc);
     assert_eq!(rt; (marked.mark, marked.clock, marked.vertices), (3, 3, 1));
     let lifted = store.lift(&(), alloc, Oid::Vertex(VertexId(0)));
@@ -81,12 +77,12 @@ fn one_caller_writes_and_reads(rt: HostRuntime) -> Result<(), Fail> {
 #[test]
 fn a_transaction_is_searched_and_viewed(rt: HostRuntime) -> Result<(), Fail> {
     let alloc = rt.alloc();
-    let mut core = Core::new(alloc, 2)?;
-    let _made = made(alloc, &mut core)?;
-    let (found, dead) = searched(alloc, &mut core)?;
+    let mut store = Solo::over(Core::new(alloc, 2)?, 1);
+    let _made = made(alloc, &mut store)?;
+    let (found, dead) = searched(alloc, &mut store)?;
     assert_eq!(rt; found, Some(0));
     assert!(rt; dead);
-    let (first, vertex, edge) = looked(alloc, &mut core)?;
+    let (first, vertex, edge) = looked(alloc, &mut store)?;
     assert_eq!(rt; first, Some(VertexId(0)));
     assert!(rt; vertex && !edge);
     Ok(())

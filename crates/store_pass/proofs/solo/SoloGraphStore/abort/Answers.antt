@@ -11,4 +11,4 @@ returns-clause-sends c = sends c.args.self.now _ event.Abort reply.Aborted refl 
 pub returns-clause-ended : goal.returns-clause-ended
 returns-clause-ended c =
     let some = c.in-Aborted.ensures.some in
-    open_aborted some.start c.args.self.now.core.now c.step.new.self some.entries c.args.self.now.caller some.stood (c.in-Aborted.ensures.stands some.start some.entries some.stood tt) (c.in-Aborted.ensures.answered some.start some.entries some.stood tt)
+    open_aborted some.start c.args.self.now.core c.step.new.self some.entries c.args.self.now.caller some.stood (c.in-Aborted.ensures.stands some.start some.entries some.stood tt) (c.in-Aborted.ensures.answered some.start some.entries some.stood tt)

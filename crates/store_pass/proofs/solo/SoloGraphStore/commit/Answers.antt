@@ -11,4 +11,4 @@ returns-clause-sends c = sends c.args.self.now _ event.Commit (reply.Committed c
 pub returns-clause-ended : goal.returns-clause-ended
 returns-clause-ended c =
     let some = c.in-Committed.ensures.some in
-    open_committed some.start c.args.self.now.core.now c.step.new.self some.entries c.args.self.now.caller c.in-Committed.ts some.stood (c.in-Committed.ensures.stands some.start some.entries some.stood tt) (c.in-Committed.ensures.answered some.start some.entries some.stood tt)
+    open_committed some.start c.args.self.now.core c.step.new.self some.entries c.args.self.now.caller c.in-Committed.ts some.stood (c.in-Committed.ensures.stands some.start some.entries some.stood tt) (c.in-Committed.ensures.answered some.start some.entries some.stood tt)

@@ -15,14 +15,14 @@ returns-in-Id-clause-sends c = sends c.args.self.now _ (event.Next c.args.kind c
 pub returns-in-Id-clause-stays : goal.returns-in-Id-clause-stays
 returns-in-Id-clause-stays c =
     let some = c.in-Id.ensures.some in
-    open_stays some.start c.args.self.now.core.now c.step.new.self some.entries c.args.self.now.caller (event.Next c.args.kind c.args.after c.args.when) (reply.Id c.in-Id.id) some.stood (c.in-Id.ensures.stands some.start some.entries some.stood tt) refl
+    open_stays some.start c.args.self.now.core c.step.new.self some.entries c.args.self.now.caller (event.Next c.args.kind c.args.after c.args.when) (reply.Id c.in-Id.id) some.stood (c.in-Id.ensures.stands some.start some.entries some.stood tt) refl
 
 pub returns-in_default-clause-sends : goal.returns-in_default-clause-sends
 returns-in_default-clause-sends c =
     sends c.args.self.now _ (event.Next c.args.kind c.args.after c.args.when) (reply.Refused c.refusal.result) refl c.step.ensures.some
-    (retold c.args.self.now.core.now c.step.new.self c.args.self.now.caller (event.Next c.args.kind c.args.after c.args.when) (reply_of c.step.result) (reply.Refused c.refusal.result) c.refusal.ensures c.step.ensures.stands)
+    (retold c.args.self.now.core c.step.new.self c.args.self.now.caller (event.Next c.args.kind c.args.after c.args.when) (reply_of c.step.result) (reply.Refused c.refusal.result) c.refusal.ensures c.step.ensures.stands)
 
 pub returns-in_default-clause-stays : goal.returns-in_default-clause-stays
 returns-in_default-clause-stays c =
     let some = c.step.ensures.some in
-    open_stays some.start c.args.self.now.core.now c.step.new.self some.entries c.args.self.now.caller (event.Next c.args.kind c.args.after c.args.when) (reply_of c.step.result) some.stood (c.step.ensures.stands some.start some.entries some.stood tt) refl
+    open_stays some.start c.args.self.now.core c.step.new.self some.entries c.args.self.now.caller (event.Next c.args.kind c.args.after c.args.when) (reply_of c.step.result) some.stood (c.step.ensures.stands some.start some.entries some.stood tt) refl

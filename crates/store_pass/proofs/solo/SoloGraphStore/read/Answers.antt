@@ -21,7 +21,7 @@ returns-in-Ok-clause-sends c = record {
 pub returns-in-Ok-clause-stays : goal.returns-in-Ok-clause-stays
 returns-in-Ok-clause-stays c =
     let some = c.in-Version.ensures.some in
-    open_stays some.start c.args.self.now.core.now c.step.new.self some.entries c.args.self.now.caller (event.Read c.args.x c.args.when) (reply.Version (found_object after c.in-Version.found)) some.stood (c.in-Version.ensures.stands some.start some.entries some.stood tt) refl
+    open_stays some.start c.args.self.now.core c.step.new.self some.entries c.args.self.now.caller (event.Read c.args.x c.args.when) (reply.Version (found_object after c.in-Version.found)) some.stood (c.in-Version.ensures.stands some.start some.entries some.stood tt) refl
 
 pub returns-in-Err-clause-sends : goal.returns-in-Err-clause-sends
 returns-in-Err-clause-sends c = record {
@@ -33,17 +33,17 @@ returns-in-Err-clause-sends c = record {
 pub returns-in-Err-clause-stays : goal.returns-in-Err-clause-stays
 returns-in-Err-clause-stays c =
     let some = c.in-Version.ensures.some in
-    open_stays some.start c.args.self.now.core.now c.step.new.self some.entries c.args.self.now.caller (event.Read c.args.x c.args.when) (reply.Version (found_object after c.in-Version.found)) some.stood (c.in-Version.ensures.stands some.start some.entries some.stood tt) refl
+    open_stays some.start c.args.self.now.core c.step.new.self some.entries c.args.self.now.caller (event.Read c.args.x c.args.when) (reply.Version (found_object after c.in-Version.found)) some.stood (c.in-Version.ensures.stands some.start some.entries some.stood tt) refl
 
 pub returns-in_default-clause-sends : goal.returns-in_default-clause-sends
 returns-in_default-clause-sends c = record {
   reply = reply.Refused c.refusal.result;
   told = is_refused c.refusal.result;
   sent = sends c.args.self.now _ (event.Read c.args.x c.args.when) (reply.Refused c.refusal.result) refl c.step.ensures.some
-      (retold c.args.self.now.core.now c.step.new.self c.args.self.now.caller (event.Read c.args.x c.args.when) (reply_of c.step.result) (reply.Refused c.refusal.result) c.refusal.ensures c.step.ensures.stands);
+      (retold c.args.self.now.core c.step.new.self c.args.self.now.caller (event.Read c.args.x c.args.when) (reply_of c.step.result) (reply.Refused c.refusal.result) c.refusal.ensures c.step.ensures.stands);
 }
 
 pub returns-in_default-clause-stays : goal.returns-in_default-clause-stays
 returns-in_default-clause-stays c =
     let some = c.step.ensures.some in
-    open_stays some.start c.args.self.now.core.now c.step.new.self some.entries c.args.self.now.caller (event.Read c.args.x c.args.when) (reply_of c.step.result) some.stood (c.step.ensures.stands some.start some.entries some.stood tt) refl
+    open_stays some.start c.args.self.now.core c.step.new.self some.entries c.args.self.now.caller (event.Read c.args.x c.args.when) (reply_of c.step.result) some.stood (c.step.ensures.stands some.start some.entries some.stood tt) refl

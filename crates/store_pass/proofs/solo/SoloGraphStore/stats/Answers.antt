@@ -11,4 +11,4 @@ returns-clause-sends c = sends c.args.self.now _ event.Stats (reply.Stats c.in-S
 pub returns-clause-stays : goal.returns-clause-stays
 returns-clause-stays c =
     let some = c.in-Stats.ensures.some in
-    open_stays some.start c.args.self.now.core.now c.step.new.self some.entries c.args.self.now.caller event.Stats (reply.Stats c.in-Stats.stats) some.stood (c.in-Stats.ensures.stands some.start some.entries some.stood tt) refl
+    open_stays some.start c.args.self.now.core c.step.new.self some.entries c.args.self.now.caller event.Stats (reply.Stats c.in-Stats.stats) some.stood (c.in-Stats.ensures.stands some.start some.entries some.stood tt) refl

@@ -15,14 +15,14 @@ returns-in-Wrote-clause-sends c = sends c.args.self.now _ (event.Write c.args.as
 pub returns-in-Wrote-clause-stays : goal.returns-in-Wrote-clause-stays
 returns-in-Wrote-clause-stays c =
     let some = c.in-Wrote.ensures.some in
-    open_stays some.start c.args.self.now.core.now c.step.new.self some.entries c.args.self.now.caller (event.Write c.args.ask) (reply.Wrote c.in-Wrote.wrote) some.stood (c.in-Wrote.ensures.stands some.start some.entries some.stood tt) refl
+    open_stays some.start c.args.self.now.core c.step.new.self some.entries c.args.self.now.caller (event.Write c.args.ask) (reply.Wrote c.in-Wrote.wrote) some.stood (c.in-Wrote.ensures.stands some.start some.entries some.stood tt) refl
 
 pub returns-in_default-clause-sends : goal.returns-in_default-clause-sends
 returns-in_default-clause-sends c =
     sends c.args.self.now _ (event.Write c.args.ask) (reply.Refused c.refusal.result) refl c.step.ensures.some
-    (retold c.args.self.now.core.now c.step.new.self c.args.self.now.caller (event.Write c.args.ask) (reply_of c.step.result) (reply.Refused c.refusal.result) c.refusal.ensures c.step.ensures.stands)
+    (retold c.args.self.now.core c.step.new.self c.args.self.now.caller (event.Write c.args.ask) (reply_of c.step.result) (reply.Refused c.refusal.result) c.refusal.ensures c.step.ensures.stands)
 
 pub returns-in_default-clause-stays : goal.returns-in_default-clause-stays
 returns-in_default-clause-stays c =
     let some = c.step.ensures.some in
-    open_stays some.start c.args.self.now.core.now c.step.new.self some.entries c.args.self.now.caller (event.Write c.args.ask) (reply_of c.step.result) some.stood (c.step.ensures.stands some.start some.entries some.stood tt) refl
+    open_stays some.start c.args.self.now.core c.step.new.self some.entries c.args.self.now.caller (event.Write c.args.ask) (reply_of c.step.result) some.stood (c.step.ensures.stands some.start some.entries some.stood tt) refl

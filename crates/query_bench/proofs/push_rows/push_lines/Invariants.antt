@@ -1,6 +1,0 @@
-use Rattle.std.proofs.Common.{◌≡◌, ◌++◌, drop, string_bytes}
-use Rattle.query_bench.specs.Rows.{row_lines}
-use Rattle.query_bench.proofs.push_rows.push_lines.Given as goal
-
-abbrev pub invariant-loop-row : goal.invariant-loop-row
-invariant-loop-row l = string_bytes l.out ++ row_lines (drop l.row-index l.rows) ≡ string_bytes l.fn.out ++ row_lines l.rows

@@ -1,0 +1,5 @@
+use Rattle.query_reply.specs.Stops.{stop_text}
+use Rattle.session_core.proofs.queries.stopped_in_own.Goals as goal
+
+pub returns-in-Err-clause-says : goal.returns-in-Err-clause-says
+returns-in-Err-clause-says g c = c.wanting_in_own.ensures.says (stop_text c.args.why.now)

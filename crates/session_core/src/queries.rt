@@ -1,0 +1,267 @@
+//! Queries: inside the session's transaction, or in one of their own.
+ghost use Rattle.std.specs.Prelude.{◌≡◌, IfOk, Ok, Err, None, Some, string_bytes};
+ghost use Rattle.cypher_check.specs.Answer.{query_of};
+ghost use Rattle.cypher_check.specs.Verdict as rules;
+ghost use Rattle.query_reply.specs.Faults as faults;
+ghost use Rattle.query_reply.specs.Stops as stops;
+ghost use Rattle.query_run.specs.Denoted.{denoted};
+ghost use Rattle.session_core.specs.Asking as spec;
+ghost use Rattle.session_core.specs.Replying.{GivesUp, Refuses};
+ghost use Rattle.session_core.specs.Says.{Acts};
+ghost use Rattle.session_core.specs.Texts as texts;
+
+use crate::NoMemory;
+use crate::refusing::{given_up, refused, told, wanting, wanting_in_own};
+use crate::reply::Answered;
+use crate::texts::{not_begun_text, rows_room, with_number};
+use cypher_check::Checked;
+use cypher_syntax::Time;
+use graph_value::Text;
+use query_reply::{Fault, ShownRow, examine, push_fault, push_stop};
+use query_run::{Rows, Stop, run};
+use std::alloc::Global;
+use world_model::{GraphStore, Txn};
+
+fn fault_text(alloc: Global, why: &Fault) -> Result<String, NoMemory>
+    ensures { IfOk result (λ t. string_bytes t ≡ faults.fault_text why.now) }
+{
+    let mut text = String::new(alloc);
+    push_fault(alloc, &mut text, why)?;
+    Ok(text)
+}
+
+fn stop_text(alloc: Global, why: &Stop) -> Result<String, NoMemory>
+    ensures { IfOk result (λ t. string_bytes t ≡ stops.stop_text why.now) }
+{
+    let mut text = String::new(alloc);
+    push_stop(&mut text, why)?;
+    Ok(text)
+}
+
+fn rows_text(alloc: Global, rows: &[ShownRow], at: u64) -> Result<String, NoMemory>
+    ensures { IfOk result (λ t. string_bytes t ≡ texts.rows_text rows.now at) }
+{
+    let room = rows_room(alloc, rows)?;
+    Ok(with_number(room, at))
+}
+
+/// A query in the session's transaction has stopped.
+fn stopped<S: GraphStore>(
+    rt: &S::Rt,
+    alloc: Global,
+    store: &mut S,
+    start: u64,
+    why: &Stop,
+) -> Answered
+    requires { S.running store.old ≡ Some start }
+    ensures says { Acts S.stands S.caller S.alone
+        (Refuses (stops.stop_text why.now) (Some start) result) store.old store.new }
+    ensures open { S.running store.new ≡ result.running }
+{
+    match stop_text(alloc, why) {
+        Ok(text) => refused(rt, alloc, store, Some(start), text.as_str()),
+        Err(_) => wanting(rt, alloc, store, Some(start)),
+    }
+}
+
+/// A query is run in the session's transaction.
+fn ask_inside<S: GraphStore>(
+    rt: &S::Rt,
+    alloc: Global,
+    store: &mut S,
+    start: u64,
+    checked: &Checked,
+) -> Answered
+    requires { S.running store.old ≡ Some start }
+    ensures says { Acts S.stands S.caller S.alone
+        (spec.AsksInside (denoted (query_of checked.now)) start result) store.old store.new }
+    ensures open { S.running store.new ≡ result.running }
+{
+    let txn = Txn::begun(start);
+    let ran = run(alloc, checked, rt, store, &txn);
+    let _start = txn.end();
+    match ran {
+        Ok(rows) => {
+            let text = rows_text(alloc, rows.as_slice(), start);
+            told(rt, alloc, store, Some(start), text)
+        }
+        Err(why) => stopped(rt, alloc, store, start, &why),
+    }
+}
+
+/// A query in a transaction of its own has stopped.
+fn stopped_in_own<S: GraphStore>(
+    rt: &S::Rt,
+    alloc: Global,
+    store: &mut S,
+    txn: Txn,
+    why: &Stop,
+) -> Answered
+    requires { S.running store.old ≡ Some txn.start }
+    ensures says { Acts S.stands S.caller S.alone (GivesUp (stops.stop_text why.now) result)
+        store.old store.new }
+    ensures open { S.running store.new ≡ result.running }
+{
+    match stop_text(alloc, why) {
+        Ok(text) => given_up(rt, alloc, store, txn, text.as_str()),
+        Err(_) => wanting_in_own(rt, alloc, store, txn),
+    }
+}
+
+/// A query in a transaction of its own has these rows.
+fn commit_rows<S: GraphStore>(
+    rt: &S::Rt,
+    alloc: Global,
+    store: &mut S,
+    txn: Txn,
+    rows: &Rows,
+) -> Answered
+    requires { S.running store.old ≡ Some txn.start }
+    ensures says { Acts S.stands S.caller S.alone (spec.ToldOutside result (Ok rows.now))
+        store.old store.new }
+    ensures open { S.running store.new ≡ result.running }
+{
+    match rows_room(alloc, rows.as_slice()) {
+        Ok(room) => {
+            let ts = store.commit(rt, alloc, txn);
+            Answered::committed(with_number(room, ts))
+        }
+        Err(_) => wanting_in_own(rt, alloc, store, txn),
+    }
+}
+
+fn run_in_own<S: GraphStore>(
+    rt: &S::Rt,
+    alloc: Global,
+    store: &mut S,
+    txn: Txn,
+    checked: &Checked,
+) -> Answered
+    requires { S.running store.old ≡ Some txn.start }
+    ensures says { Acts S.stands S.caller S.alone
+        (spec.RunsOutside (denoted (query_of checked.now)) result txn.start)
+        store.old store.new }
+    ensures open { S.running store.new ≡ result.running }
+{
+    match run(alloc, checked, rt, store, &txn) {
+        Ok(rows) => commit_rows(rt, alloc, store, txn, &rows),
+        Err(why) => stopped_in_own(rt, alloc, store, txn, &why),
+    }
+}
+
+/// A query is run in a transaction of its own.
+fn ask_outside<S: GraphStore>(
+    rt: &S::Rt,
+    alloc: Global,
+    store: &mut S,
+    checked: &Checked,
+) -> Answered
+    requires { S.running store.old ≡ None }
+    ensures says { Acts S.stands S.caller S.alone
+        (spec.Asks (denoted (query_of checked.now)) None result) store.old store.new }
+    ensures open { S.running store.new ≡ result.running }
+{
+    match store.begin(rt, alloc) {
+        Ok(txn) => run_in_own(rt, alloc, store, txn, checked),
+        Err(why) => refused(rt, alloc, store, None, not_begun_text(why)),
+    }
+}
+
+fn ask<S: GraphStore>(
+    rt: &S::Rt,
+    alloc: Global,
+    store: &mut S,
+    running: Option<u64>,
+    checked: &Checked,
+) -> Answered
+    requires { S.running store.old ≡ running }
+    ensures says { Acts S.stands S.caller S.alone
+        (spec.Asks (denoted (query_of checked.now)) running result) store.old store.new }
+    ensures open { S.running store.new ≡ result.running }
+{
+    match running {
+        Some(start) => ask_inside(rt, alloc, store, start, checked),
+        None => ask_outside(rt, alloc, store, checked),
+    }
+}
+
+fn is_timed(time: &Time) -> bool
+    ensures { result ≡ rules.is_timed time.now }
+{
+    !matches!(time, Time::None)
+}
+
+fn answer_checked<S: GraphStore>(
+    rt: &S::Rt,
+    alloc: Global,
+    store: &mut S,
+    running: Option<u64>,
+    checked: &Checked,
+) -> Answered
+    requires { S.running store.old ≡ running }
+    ensures says { Acts S.stands S.caller S.alone
+        (spec.AnswersQuery (rules.is_timed (query_of checked.now).time)
+        (denoted (query_of checked.now)) running result) store.old store.new }
+    ensures open { S.running store.new ≡ result.running }
+{
+    if is_timed(checked.time()) {
+        refused(rt, alloc, store, running, "ERR 4 shape TT clause")
+    } else {
+        ask(rt, alloc, store, running, checked)
+    }
+}
+
+fn faulty<S: GraphStore>(
+    rt: &S::Rt,
+    alloc: Global,
+    store: &mut S,
+    running: Option<u64>,
+    why: &Fault,
+) -> Answered
+    requires { S.running store.old ≡ running }
+    ensures says { Acts S.stands S.caller S.alone
+        (Refuses (faults.fault_text why.now) running result) store.old store.new }
+    ensures open { S.running store.new ≡ result.running }
+{
+    match fault_text(alloc, why) {
+        Ok(text) => refused(rt, alloc, store, running, text.as_str()),
+        Err(_) => wanting(rt, alloc, store, running),
+    }
+}
+
+fn answer_text<S: GraphStore>(
+    rt: &S::Rt,
+    alloc: Global,
+    store: &mut S,
+    running: Option<u64>,
+    statement: &Text,
+) -> Answered
+    requires { S.running store.old ≡ running }
+    ensures says { Acts S.stands S.caller S.alone (spec.Queries statement.now running result)
+        store.old store.new }
+    ensures open { S.running store.new ≡ result.running }
+{
+    match examine(alloc, statement) {
+        Ok(checked) => answer_checked(rt, alloc, store, running, &checked),
+        Err(why) => faulty(rt, alloc, store, running, &why),
+    }
+}
+
+/// Answers a query.
+pub(crate) fn query<S: GraphStore>(
+    rt: &S::Rt,
+    alloc: Global,
+    store: &mut S,
+    running: Option<u64>,
+    statement: &str,
+) -> Answered
+    requires { S.running store.old ≡ running }
+    ensures says { Acts S.stands S.caller S.alone (spec.Queries statement.now running result)
+        store.old store.new }
+    ensures open { S.running store.new ≡ result.running }
+{
+    match Text::from_str(alloc, statement) {
+        Ok(statement) => answer_text(rt, alloc, store, running, &statement),
+        Err(_) => wanting(rt, alloc, store, running),
+    }
+}

@@ -1,0 +1,3 @@
+pub mod Neighbours
+pub mod Runs
+pub mod Spans
