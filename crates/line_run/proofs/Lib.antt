@@ -1,0 +1,4 @@
+mod Endings
+mod Gone
+mod SoFar
+pub mod Turns

@@ -1,0 +1,6 @@
+mod Lists
+mod Cuts
+mod Numbers
+mod Others
+mod Turning
+mod Closing

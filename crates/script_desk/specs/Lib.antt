@@ -1,0 +1,4 @@
+pub mod Naming
+pub mod Roll
+pub mod Script
+pub mod Stands

@@ -1,0 +1,5 @@
+//! Tests of scripts of many sessions.
+#![tactic(auto)]
+
+#[cfg(test)]
+mod tests;
