@@ -1,8 +1,9 @@
 ghost use Rattle.std.specs.Prelude.{◌≡◌, IfSome};
-ghost use Rattle.graph_shell.specs.Commands.{Does, IsInLimits, ShowsUsage, command_of};
+ghost use Rattle.graph_shell.specs.Commands.{Does, IsInLimits, ShowsUsage, command_named, command_of};
 
 use crate::run::run_events;
 use graph_value::Text;
+use script_run::run_script;
 use std::alloc::Global;
 use wire_line::{Sink, Source, write_whole};
 
@@ -11,6 +12,8 @@ use wire_line::{Sink, Source, write_whole};
 pub enum Command {
     /// Answer an event list. `anchor` is the number of deltas in a block of history, from 1 to 1,024.
     Events { anchor: u64 },
+    /// Answer a script. `anchor` is the same.
+    Script { anchor: u64 },
 }
 
 /// The command that the words behind the program's name are, or `None` where they are none. It takes no memory.
@@ -19,7 +22,19 @@ pub fn read_words(words: &[Text]) -> Option<Command>
     ensures limits { IfSome result IsInLimits }
 {
     match words {
-        [word] if word.as_str() == "events" => Some(Command::Events { anchor: 1 }),
+        [word] => read_word(word.as_str()),
+        _ => None,
+    }
+}
+
+/// The command of one word.
+fn read_word(word: &str) -> Option<Command>
+    ensures read { result ≡ command_named word.now }
+    ensures limits { IfSome result IsInLimits }
+{
+    match word {
+        "events" => Some(Command::Events { anchor: 1 }),
+        "script" => Some(Command::Script { anchor: 1 }),
         _ => None,
     }
 }
@@ -37,7 +52,7 @@ pub fn show_usage<O: Sink>(output: &mut O) -> u8
 /// Does what the words ask for, and ends with the program's status.
 ///
 /// Status 2: the words are no command, and the usage line was written. All others are those of
-/// [`run_events`](crate::run_events).
+/// [`run_events`](crate::run_events) and of [`run_script`](script_run::run_script).
 pub fn aeong_main<I: Source, O: Sink>(
     alloc: Global,
     words: &[Text],
@@ -48,6 +63,7 @@ pub fn aeong_main<I: Source, O: Sink>(
 {
     match read_words(words) {
         Some(Command::Events { anchor }) => run_events(alloc, anchor, input, output),
+        Some(Command::Script { anchor }) => run_script(alloc, anchor, input, output),
         None => show_usage(output),
     }
 }

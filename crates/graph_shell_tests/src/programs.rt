@@ -10,6 +10,7 @@ use wire_line::{MemorySink, MemorySource, SameBytes, Source};
 
 mod ends;
 mod rows;
+mod scripts;
 
 /// What a source gives.
 #[derive(Clone, Copy)]
@@ -246,13 +247,13 @@ fn each_status_has_its_cause(rt: HostRuntime) -> Result<(), Fail> {
 /// The anchor of the command that the words are.
 fn anchor_of(words: &[Text]) -> Option<u64> {
     match read_words(words) {
-        Some(Command::Events { anchor }) => Some(anchor),
+        Some(Command::Events { anchor } | Command::Script { anchor }) => Some(anchor),
         None => None,
     }
 }
 
-fn anchor_of_events(alloc: Global) -> Result<Option<u64>, NoMemory> {
-    Ok(anchor_of(&[Text::from_str(alloc, "events")?]))
+fn anchor_of_word(alloc: Global, word: &str) -> Result<Option<u64>, NoMemory> {
+    Ok(anchor_of(&[Text::from_str(alloc, word)?]))
 }
 
 fn anchor_of_two_words(alloc: Global) -> Result<Option<u64>, NoMemory> {
@@ -268,7 +269,9 @@ fn words_are_read(rt: HostRuntime) -> Result<(), Fail> {
     let alloc = rt.alloc();
     assert!(rt; anchor_of(&[]).is_none());
     assert!(rt; anchor_of_two_words(alloc)?.is_none());
-    assert!(rt; anchor_of_events(alloc)? == Some(1));
+    assert!(rt; anchor_of_word(alloc, "events")? == Some(1));
+    assert!(rt; anchor_of_word(alloc, "script")? == Some(1));
+    assert!(rt; anchor_of_word(alloc, "scripts")?.is_none());
     Ok(())
 }
 
