@@ -1,10 +1,14 @@
+mod hostile;
 mod rows;
+mod stories;
 
 use graph_value::NoMemory;
+use hostile::{Line, TRIALS};
 use rows::{NAMES, RIVALS, Row};
 use script_desk::Desk;
 use std::alloc::Global;
 use std::test::Fail;
+use stories::{ACCOUNTS, PERMISSIONS};
 
 /// The first line that is answered otherwise, with its reply.
 fn first_wrong(alloc: Global, desk: &mut Desk, rows: &[Row]) -> Result<Option<String>, NoMemory> {
@@ -48,5 +52,111 @@ fn a_line_that_is_too_long_is_no_sessions(rt: HostRuntime) -> Result<(), Fail> {
     desk.end(alloc);
     told?;
     assert!(rt; reply.as_str() == "-: ERR 1 line too long\n", "{reply:?}");
+    Ok(())
+}
+
+/// What a new desk answers the lines of a script.
+fn replies(alloc: Global, script: &str) -> Result<String, NoMemory> {
+    let mut desk = Desk::new(alloc, 1)?;
+    let told = push_replies(alloc, &mut desk, script);
+    desk.end(alloc);
+    told
+}
+
+fn push_replies(alloc: Global, desk: &mut Desk, script: &str) -> Result<String, NoMemory> {
+    let mut all = String::new(alloc);
+    let mut reply = String::new(alloc);
+    for line in script.split('\n') {
+        desk.answer(alloc, line.as_bytes(), &mut reply)?;
+        all.push_str(reply.as_str())?;
+    }
+    Ok(all)
+}
+
+#[test]
+fn stories_are_answered_so(rt: HostRuntime) -> Result<(), Fail> {
+    for (script, wanted) in [ACCOUNTS, PERMISSIONS] {
+        assert_eq!(rt; replies(rt.alloc(), script)?.as_str(), wanted);
+    }
+    Ok(())
+}
+
+/// The bytes of a line.
+fn bytes_of(alloc: Global, line: &Line) -> Result<Vec<u8>, NoMemory> {
+    let mut bytes = Vec::new(alloc);
+    match line {
+        Line::Whole(whole) => bytes.extend_from_slice(whole)?,
+        Line::Of(pieces) => {
+            for (piece, times) in pieces {
+                for _ in 0..*times {
+                    bytes.extend_from_slice(piece)?;
+                }
+            }
+        }
+    }
+    Ok(bytes)
+}
+
+/// The first reply to the line that isn't the one that is wanted.
+fn wrong_reply(
+    alloc: Global,
+    desk: &mut Desk,
+    row: &hostile::Row,
+) -> Result<Option<String>, NoMemory> {
+    let (times, line, wanted) = row;
+    let bytes = bytes_of(alloc, line)?;
+    let mut reply = String::new(alloc);
+    for _ in 0..*times {
+        desk.answer(alloc, bytes.as_slice(), &mut reply)?;
+        if reply.as_str() != *wanted {
+            return Ok(Some(reply));
+        }
+    }
+    Ok(None)
+}
+
+fn first_wrong_trial(alloc: Global, desk: &mut Desk) -> Result<Option<String>, NoMemory> {
+    for row in &TRIALS {
+        let wrong = wrong_reply(alloc, desk, row)?;
+        if wrong.is_some() {
+            return Ok(wrong);
+        }
+    }
+    Ok(None)
+}
+
+#[test]
+fn hostile_lines_are_answered_as_others(rt: HostRuntime) -> Result<(), Fail> {
+    let alloc = rt.alloc();
+    let mut desk = Desk::new(alloc, 1)?;
+    let wrong = first_wrong_trial(alloc, &mut desk);
+    desk.end(alloc);
+    let wrong = wrong?;
+    assert!(rt; wrong.is_none(), "{wrong:?}");
+    Ok(())
+}
+
+/// Begins transactions of so many sessions, and gives the last reply.
+fn all_begin(alloc: Global, desk: &mut Desk, count: u64) -> Result<String, NoMemory> {
+    let mut reply = String::new(alloc);
+    for number in 0..count {
+        let line = format!(in alloc; "s{number}: BEGIN")?;
+        desk.answer(alloc, line.as_bytes(), &mut reply)?;
+    }
+    Ok(reply)
+}
+
+#[test]
+fn the_last_of_1025_sessions_finds_no_place(rt: HostRuntime) -> Result<(), Fail> {
+    let alloc = rt.alloc();
+    let mut desk = Desk::new(alloc, 1)?;
+    let told = all_begin(alloc, &mut desk, 1025);
+    let next = push_replies(alloc, &mut desk, "s3: ROLLBACK\ns1024: BEGIN");
+    desk.end(alloc);
+    assert_eq!(rt; told?.as_str(), "s1024: ERR 18 too many transactions\n");
+    assert_eq!(rt;
+        next?.as_str(),
+        "s3: OK rollback\ns1024: OK begin at 1025\n"
+    );
     Ok(())
 }
