@@ -3,7 +3,7 @@ mod rows;
 mod stories;
 
 use graph_value::NoMemory;
-use hostile::{Line, TRIALS};
+use hostile::{TRIALS, Trial};
 use rows::{NAMES, RIVALS, Row};
 use script_desk::Desk;
 use std::alloc::Global;
@@ -82,33 +82,26 @@ fn stories_are_answered_so(rt: HostRuntime) -> Result<(), Fail> {
 }
 
 /// The bytes of a line.
-fn bytes_of(alloc: Global, line: &Line) -> Result<Vec<u8>, NoMemory> {
+fn bytes_of(alloc: Global, trial: &Trial) -> Result<Vec<u8>, NoMemory> {
     let mut bytes = Vec::new(alloc);
-    match line {
-        Line::Whole(whole) => bytes.extend_from_slice(whole)?,
-        Line::Of(pieces) => {
-            for (piece, times) in pieces {
-                for _ in 0..*times {
-                    bytes.extend_from_slice(piece)?;
-                }
-            }
-        }
+    bytes.extend_from_slice(trial.front)?;
+    for _ in 0..trial.count {
+        bytes.extend_from_slice(trial.filling)?;
+    }
+    bytes.extend_from_slice(trial.middle)?;
+    for _ in 0..trial.count {
+        bytes.extend_from_slice(trial.closing)?;
     }
     Ok(bytes)
 }
 
 /// The first reply to the line that isn't the one that is wanted.
-fn wrong_reply(
-    alloc: Global,
-    desk: &mut Desk,
-    row: &hostile::Row,
-) -> Result<Option<String>, NoMemory> {
-    let (times, line, wanted) = row;
-    let bytes = bytes_of(alloc, line)?;
+fn wrong_reply(alloc: Global, desk: &mut Desk, trial: &Trial) -> Result<Option<String>, NoMemory> {
+    let bytes = bytes_of(alloc, trial)?;
     let mut reply = String::new(alloc);
-    for _ in 0..*times {
+    for _ in 0..trial.times {
         desk.answer(alloc, bytes.as_slice(), &mut reply)?;
-        if reply.as_str() != *wanted {
+        if reply.as_str() != trial.reply {
             return Ok(Some(reply));
         }
     }
@@ -116,8 +109,8 @@ fn wrong_reply(
 }
 
 fn first_wrong_trial(alloc: Global, desk: &mut Desk) -> Result<Option<String>, NoMemory> {
-    for row in &TRIALS {
-        let wrong = wrong_reply(alloc, desk, row)?;
+    for trial in &TRIALS {
+        let wrong = wrong_reply(alloc, desk, trial)?;
         if wrong.is_some() {
             return Ok(wrong);
         }
