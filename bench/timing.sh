@@ -1,5 +1,12 @@
-# What the measurements of the store share: the time that lines of events take, rows of ratios, and lines that make vertices
-# and versions. It is read by the scripts beside it, which name the program in `program` and the number of tries in `tries`.
+# What the measurements of the store share: the time that lines take, rows of ratios, and events that make vertices and
+# versions. It is read by the scripts beside it, which name the program in `program` and the number of tries in `tries`, and
+# what follows where the lines aren't events.
+
+# The program's word; the line behind a measured part, with its reply; and which replies are looked at.
+word="${word:-events}"
+end_line="${end_line:-9 commit}"
+end_reply="${end_reply:-9 refused 1 no transaction}"
+looked_at="${looked_at:-^9 \|refused}"
 
 if [ ! -x "$program" ]; then
     echo "no $program: run 'bin/aeong events </dev/null' first" >&2
@@ -11,9 +18,9 @@ trap 'rm -rf "$room"' EXIT
 # Sends the lines of a file and waits until they are answered; the program answers the last line with an end.
 send() {
     local answer
-    { cat "$1"; echo "9 commit"; } >&3
+    { cat "$1"; echo "$end_line"; } >&3
     read -r answer <&4
-    if [ "$answer" != "9 refused 1 no transaction" ]; then
+    if [ "$answer" != "$end_reply" ]; then
         echo "unexpected: $answer" >&2
         exit 1
     fi
@@ -24,8 +31,8 @@ time_of() {
     local least="" start time
     mkfifo "$room/lines" "$room/answers" "$room/ends"
     for ((i = 0; i < tries; i++)); do
-        grep --line-buffered '^9 \|refused' <"$room/answers" >"$room/ends" &
-        "$program" events <"$room/lines" >"$room/answers" &
+        grep --line-buffered "$looked_at" <"$room/answers" >"$room/ends" &
+        "$program" "$word" <"$room/lines" >"$room/answers" &
         exec 3>"$room/lines" 4<"$room/ends"
         send "$1"
         start=${EPOCHREALTIME/[.,]/}
