@@ -104,7 +104,7 @@ beside() {
 # A transaction that has written so often.
 written() {
     echo "a: BEGIN"
-    awk -v count="$1" 'BEGIN { for (i = 0; i < count; i++) printf "a: MATCH (n:Person {n:%d}) SET n.k = n.k + 1\n", i % 10 }'
+    committed "$1"
 }
 
 # So many open transactions.
@@ -114,7 +114,7 @@ opened() {
 
 # So many commits.
 committed() {
-    awk -v count="$1" 'BEGIN { for (i = 0; i < count; i++) printf "a: MATCH (n:Person {n:%d}) SET n.k = n.k + 1\n", i % 10 }'
+    statements update 10 "$1"
 }
 
 beside writes written 0 1000

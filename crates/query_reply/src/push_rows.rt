@@ -4,7 +4,7 @@ ghost use Rattle.graph_reader.specs.Rows.{row_text};
 ghost use Rattle.query_reply.specs.Rows.{refused_text, row_lines};
 
 use expr_eval::EvalRefused;
-use graph_reader::{Shown, push_row_json};
+use graph_reader::{Shown, to_json};
 use graph_value::NoMemory;
 use sqlite_items::Items;
 use std::alloc::Global;
@@ -13,12 +13,13 @@ use std::fmt::Write;
 /// The values of a row, as they are shown.
 pub type ShownRow = Items<Shown>;
 
-/// Appends a row and a line end.
+/// Appends a row and a line end. The row is made apart, since what makes JSON reads all of the text that it appends to.
 fn push_row(alloc: Global, out: &mut String, row: &[Shown]) -> Result<(), NoMemory>
     ensures ok { OnOk result (string_bytes out.new
         ≡ string_bytes out.old ++ (row_text row.now ++ codes "\n")) }
 {
-    push_row_json(alloc, out, row)?;
+    let line = to_json(alloc, row)?;
+    out.push_str(line.as_str())?;
     out.push_str("\n")
 }
 

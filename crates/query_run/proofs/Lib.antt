@@ -1,3 +1,4 @@
+pub mod Instants
 pub mod Loops
 pub mod Moves
 pub mod ReadCalls

@@ -74,7 +74,7 @@ one_answers other e false h = refl
 
 -- ---- reading entries, and those of others
 
-comes_beside : (alone : Bool) (c : ℕ) (es : List Entry) → are_beside alone c es ≡ true → may_all_come alone c es ≡ true
+pub comes_beside : (alone : Bool) (c : ℕ) (es : List Entry) → are_beside alone c es ≡ true → may_all_come alone c es ≡ true
 unfolding are_beside may_all_come
 comes_beside alone c [] h = refl
 comes_beside alone c (e ∷ es) h =

@@ -4,3 +4,5 @@ pub mod Named
 pub mod Shown
 pub mod Denoted
 pub mod Running
+pub mod Plain
+pub mod Instant

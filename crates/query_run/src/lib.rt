@@ -4,12 +4,15 @@
 mod access;
 mod asking;
 mod clauses;
+mod instant;
 mod named;
+mod plain;
 mod reading;
 mod running;
 mod shown;
 mod stop;
 
+pub use instant::snapshot;
 pub use running::run;
 pub use shown::Rows;
 pub use stop::Stop;

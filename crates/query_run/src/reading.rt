@@ -20,7 +20,8 @@ use store_view::ViewOf;
 use world_model::{GraphStore, When};
 use write_ops::{Created, Plan, create, plan};
 
-fn or_stop<A: Drop>(answer: Result<A, EvalRefused>) -> Result<A, Stop>
+/// A refusal stops the query.
+pub(crate) fn or_stop<A: Drop>(answer: Result<A, EvalRefused>) -> Result<A, Stop>
     ensures { result ≡ stopped answer }
 {
     match answer {

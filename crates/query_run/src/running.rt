@@ -17,7 +17,8 @@ use sqlite_items::Items;
 use std::alloc::Global;
 use world_model::{GraphStore, Txn};
 
-fn one_row(alloc: Global) -> Result<Table, NoMemory>
+/// What the first clause begins with.
+pub(crate) fn one_row(alloc: Global) -> Result<Table, NoMemory>
     ensures { IfOk result (λ t. t ≡ spec.one_row) }
 {
     let mut table = Items::new(alloc);

@@ -1,11 +1,13 @@
 mod rows;
 mod running;
+mod snapshots;
 
 ghost use Rattle.std.specs.Prelude.{◌≡◌};
 
+use crate::Wanting;
 use front_core::Core;
 use graph_value::NoMemory;
-use rows::{READS, STOPS, Statement, WRITES};
+use rows::{MADE, QUIET, READS, SEEN, STOPS, Statement, WANTS, WRITES};
 use running::text_of;
 use std::alloc::{AllocError, Global};
 use std::test::Fail;
@@ -31,15 +33,35 @@ fn first_wrong<S: GraphStore>(
     Ok(None)
 }
 
-/// The same, in a transaction of a new store.
-fn wrong_in_one(alloc: Global, statements: &[Statement]) -> Result<Option<String>, NoMemory> {
-    let mut store = Solo::over(Core::new(alloc, 1)?, 1);
-    let Ok(txn) = store.begin(&(), alloc) else {
+/// The same, in a transaction of its own.
+fn wrong_on<S: GraphStore>(
+    alloc: Global,
+    store: &mut S,
+    rt: &S::Rt,
+    statements: &[Statement],
+) -> Result<Option<String>, NoMemory> {
+    let Ok(txn) = store.begin(rt, alloc) else {
         return Err(AllocError);
     };
-    let wrong = first_wrong(alloc, &mut store, &(), &txn, statements);
-    let _ts = store.commit(&(), alloc, txn);
+    let wrong = first_wrong(alloc, store, rt, &txn, statements);
+    let _ts = store.commit(rt, alloc, txn);
     wrong
+}
+
+/// The same, of a new store.
+fn wrong_in_one(alloc: Global, statements: &[Statement]) -> Result<Option<String>, NoMemory> {
+    let mut store = Solo::over(Core::new(alloc, 1)?, 1);
+    wrong_on(alloc, &mut store, &(), statements)
+}
+
+/// The same, of a new store that finds no memory at a write that changes nothing.
+fn wrong_wanting(
+    alloc: Global,
+    before: u64,
+    statements: &[Statement],
+) -> Result<Option<String>, NoMemory> {
+    let mut store = Wanting::over(Solo::over(Core::new(alloc, 1)?, 1), before);
+    wrong_on(alloc, &mut store, &(), statements)
 }
 
 #[test]
@@ -93,5 +115,24 @@ fn a_rival_is_named(rt: HostRuntime) -> Result<(), Fail> {
     let _start = txn.end();
     assert_eq!(rt; written?.as_str(), "[2]");
     assert_eq!(rt; found?.as_str(), "!conflict v1 committed 5");
+    Ok(())
+}
+
+#[test]
+fn another_store_gives_the_same_rows(rt: HostRuntime) -> Result<(), Fail> {
+    for statements in [WRITES.as_slice(), READS.as_slice(), STOPS.as_slice()] {
+        let wrong = wrong_wanting(rt.alloc(), u64::MAX, statements)?;
+        assert!(rt; wrong.is_none(), "{wrong:?}");
+    }
+    Ok(())
+}
+
+#[test]
+fn a_query_stops_at_the_write_that_finds_no_memory(rt: HostRuntime) -> Result<(), Fail> {
+    for (before, stopped, seen) in &WANTS {
+        let statements = [(MADE, ""), (QUIET, *stopped), (SEEN, *seen)];
+        let wrong = wrong_wanting(rt.alloc(), *before, &statements)?;
+        assert!(rt; wrong.is_none(), "{before}: {wrong:?}");
+    }
     Ok(())
 }

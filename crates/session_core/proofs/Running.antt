@@ -1,17 +1,29 @@
 -- A query that was run on a store, as an act.
-use Rattle.std.proofs.Common.{◌≡◌, ℕ, List, [], ◌∷◌, Option, Some, None, Bool, true, false, not, cond, refl, sym, ap, subst, ◌∙◌, append-nil}
-use Rattle.std.specs.Prelude.{Result, Ok, Err, nat_eq, option_map}
+use Rattle.std.proofs.Common.{◌≡◌, ◌<◌, ◌≤◌, ◌⊎◌, ℕ, List, [], ◌∷◌, Option, Some, None, Bool, true, false, not, cond, refl, sym, ap, subst, ◌∙◌, append-nil, arith, inl, inr}
+use Rattle.std.specs.Prelude.{Result, Ok, Err, nat_eq, nat_lt, option_map}
+use Rattle.std.proofs.lemmas.Bool.{cases_lt}
+use Rattle.std.proofs.lemmas.Bool.Decides.{nat_tests}
 use Rattle.collector.specs.Whole.{own_of}
 use Rattle.graph_record.specs.Graph.{Graph}
+use Rattle.cypher_syntax.specs.declared.tree.query.Query.{Query}
+use Rattle.cypher_syntax.specs.declared.tree.query.Time.{Time}
+use Rattle.cypher_syntax.specs.declared.tree.query.Time.TheVariants as time
 use Rattle.query_run.specs.declared.stop.Stop.{Stop}
+use Rattle.query_run.specs.Denoted.{denoted}
+use Rattle.query_run.specs.Instant.{ShowsAt}
 use Rattle.query_run.specs.Parts.{Part, given}
 use Rattle.query_run.specs.Running.{Goes, Runs, Stops, answers_of, asks_of, is_running, may_all_come, may_come}
-use Rattle.session_core.specs.Asking.{Ran}
-use Rattle.session_core.specs.Says.{Acts}
-use Rattle.world_model.specs.declared.event.When.TheVariants.{Own}
+use Rattle.query_run.proofs.ReadCalls.{comes_beside}
+use Rattle.session_core.specs.Asking.{IsAhead, Ran, Rows, RunsTimed, ShownAt, Snapshots}
+use Rattle.session_core.specs.Says.{Acts, Nothing}
+use Rattle.session_core.proofs.Acting.{idles, one, other, says_so}
+use Rattle.world_model.specs.declared.answer.Refused.{Refused}
+use Rattle.world_model.specs.declared.answer.Refused.TheVariants as refused
+use Rattle.world_model.specs.declared.event.When.{When}
+use Rattle.world_model.specs.declared.event.When.TheVariants.{At, Own}
 use Rattle.world_model.specs.History.{Entry, run}
-use Rattle.world_model.specs.Sending.{IsSeen, open_start}
-use Rattle.world_model.specs.Views.{graph_of}
+use Rattle.world_model.specs.Sending.{IsSeen, are_beside, is_beside, is_reading, open_start}
+use Rattle.world_model.specs.Views.{graph_of, time_ahead}
 use Rattle.world_model.specs.World.{Start, Txn, World, start_world, txn_of}
 use Rattle.world_model.proofs.Folds.{and_left_true, and_right_true, both_true}
 
@@ -49,33 +61,54 @@ all_run alone c (e ∷ es) h =
 all_own_alone : (alone : Bool) (c : ℕ) (es : List Entry) → may_all_come alone c es ≡ true → alone ≡ true → own_of c es ≡ es
 all_own_alone alone c es h is = all_own c es (subst (λ a. may_all_come a c es ≡ true) is h)
 
--- ---- what an open transaction sees
+-- a read of the caller's is one, whoever else acts
+reads_anyhow : (alone : Bool) (c : ℕ) (e : Entry) → is_beside alone c e ≡ true → is_beside false c e ≡ true
+reads_anyhow alone c e h = by (nat_eq e.caller c) h
+  where
+    by : (b : Bool) → cond b (is_reading e.event) (not alone) ≡ true → cond b (is_reading e.event) true ≡ true
+    by true k = k
+    by false k = refl
 
-record Seen (w : World) (c start : ℕ) : Type 0 where
+all_beside : (alone : Bool) (c : ℕ) (es : List Entry) → are_beside alone c es ≡ true → are_beside false c es ≡ true
+unfolding are_beside
+all_beside alone c [] h = refl
+all_beside alone c (e ∷ es) h =
+    both_true _ _ (reads_anyhow alone c e (and_left_true _ _ h)) (all_beside alone c es (and_right_true _ _ h))
+
+-- ---- what an open transaction may ask for
+
+record Seen (w : World) (c start : ℕ) (when : When) : Type 0 where
   graph : Graph
-  seen : IsSeen w c start Own graph
+  seen : IsSeen w c start when graph
 
 started : (o : Option Txn) (start : ℕ) → option_map (λ (p : Txn). p.start) o ≡ Some start → (p : Txn) × (o ≡ Some p) × (p.start ≡ start)
 started None start h = absurd cc
 started (Some p) start h = (p, refl, cc)
 
-sees : (w : World) (c start : ℕ) → open_start w c ≡ Some start → Seen w c start
-sees w c start h =
+sees : (w : World) (c start : ℕ) (when : When) → ((p : Txn) → p.start ≡ start → time_ahead p when ≡ None) → open_start w c ≡ Some start → Seen w c start when
+sees w c start when there h =
     let found = started (txn_of w c) start h in
-    record { graph = graph_of w found.0 Own; seen = record { txn = found.0; found = found.1; began = found.2; there = refl; graph = refl } }
+    record { graph = graph_of w found.0 when; seen = record { txn = found.0; found = found.1; began = found.2; there = there found.0 found.2; graph = refl } }
+
+not_past : (t : ℕ) (n : ℕ) (why : Refused) → t ≤ n → cond (nat_lt n t) (Some why) None ≡ None
+not_past t n why h = ap (λ b. cond b (Some why) None) is
+  where
+    is : nat_lt n t ≡ false
+    is = grind (arith, nat_tests)
 
 -- ---- the act
 
 module _ {S : Type 0} (stands : S → Start → List Entry → Type 0) (caller : S → ℕ) (alone : S → Bool) (running : S → Option ℕ)
     (runs : (r : S) (s : Start) (es : List Entry) → stands r s es → open_start (run (start_world s) es) (caller r) ≡ running r) where
-  seen_by : (start : ℕ) (store : S) → running store ≡ Some start → (s : Start) (es : List Entry) → stands store s es → Seen (run (start_world s) es) (caller store) start
-  seen_by start store is s es st = sees _ (caller store) start (runs store s es st ∙ is)
+  seen_by : (start : ℕ) (when : When) (store : S) → ((p : Txn) → p.start ≡ start → time_ahead p when ≡ None) → running store ≡ Some start →
+      (s : Start) (es : List Entry) → stands store s es → Seen (run (start_world s) es) (caller store) start when
+  seen_by start when store there is s es st = sees _ (caller store) start when there (runs store s es st ∙ is)
 
   comes : {A : Type 0} (part : Part A) (start : ℕ) (value : A) (old new : S) → running old ≡ Some start →
       Goes stands caller alone start part (given value) old new → Acts stands caller alone (Ran part start (Ok value)) old new
   comes part start value old new is h = record {
     adds = λ s es st.
-        let see = seen_by start old is s es st in
+        let see = seen_by start Own old (λ p at. refl) is s es st in
         let x = h.adds s es see.graph st see.seen in
         record {
           later = x.later;
@@ -100,7 +133,7 @@ module _ {S : Type 0} (stands : S → Start → List Entry → Type 0) (caller :
       Stops stands caller alone start part why old new → Acts stands caller alone (Ran part start (Err why)) old new
   halts part start why old new is h = record {
     adds = λ s es st.
-        let see = seen_by start old is s es st in
+        let see = seen_by start Own old (λ p at. refl) is s es st in
         let x = h.adds s es see.graph st see.seen in
         record {
           later = x.later;
@@ -122,3 +155,58 @@ module _ {S : Type 0} (stands : S → Start → List Entry → Type 0) (caller :
       Runs stands caller alone start part old new result → Acts stands caller alone (Ran part start result) old new
   ran part start (Ok value) old new is h = comes part start value old new is h
   ran part start (Err why) old new is h = halts part start why old new is h
+
+  -- a query of an instant that isn't past the start of the caller's open transaction
+  shown_at : (t : ℕ) (q : Query) (start : ℕ) (result : Result Rows Stop) (old new : S) → t ≤ start → running old ≡ Some start →
+      ShowsAt stands caller alone start t q old new result → Acts stands caller alone (ShownAt q t start result) old new
+  shown_at t q start result old new early is h = record {
+    adds = λ s es st.
+        let see = seen_by start (At t) old (λ p at. not_past t p.start (refused.TimeAhead t p.start) (subst (λ n. t ≤ n) (sym at) early)) is s es st in
+        let on = h.reads.goes_on s es st in
+        let later = on.1.later in
+        record {
+          later = later;
+          stood = subst (stands new s) on.1.parts on.2;
+          nobody = all_own_alone (alone old) (caller old) later (comes_beside (alone old) (caller old) later on.1.beside);
+          said = record {
+            graph = see.graph;
+            seen = see.seen;
+            reads = all_beside (alone old) (caller old) later on.1.beside;
+            outcome = h.on see.graph (record { begin = s; entries = es; stood = st; seen = see.seen });
+          };
+        };
+    same_caller = h.reads.same_caller;
+    same_alone = h.reads.same_alone;
+  }
+
+  -- one that is
+  shown_ahead : (t : ℕ) (q : Query) (start : ℕ) (result : Result Rows Stop) (old new : S) → start < t →
+      ShowsAt stands caller alone start t q old new result → Acts stands caller alone (IsAhead t start result) old new
+  shown_ahead t q start result old new late h =
+      let ahead = h.ahead late in
+      subst (λ store. Acts stands caller alone (IsAhead t start result) old store) (sym ahead.untouched)
+      (says_so stands caller alone Nothing (IsAhead t start result) old old
+      (λ c s es later x. record { past = late; refused = ahead.told; nothing = x })
+      (idles stands caller alone old))
+
+  pub shown : (t : ℕ) (q : Query) (start : ℕ) (result : Result Rows Stop) (old new : S) → running old ≡ Some start →
+      ShowsAt stands caller alone start t q old new result → Acts stands caller alone (Snapshots t q start result) old new
+  shown t q start result old new is h =
+      by (cases_lt start t)
+    where
+      by : (start < t) ⊎ (t ≤ start) → Acts stands caller alone (Snapshots t q start result) old new
+      by (inl late) = one stands caller alone (IsAhead t start result) (ShownAt q t start result) old new (shown_ahead t q start result old new late h)
+      by (inr early) = other stands caller alone (IsAhead t start result) (ShownAt q t start result) old new (shown_at t q start result old new early is h)
+
+  -- a query without TT SNAPSHOT is run
+  pub ran_timed : (clause : Time) (q : Query) (start : ℕ) (result : Result Rows Stop) (old new : S) →
+      (clause ≡ time.None) ⊎ ((t : ℕ) × (u : ℕ) × (clause ≡ time.Between t u)) → Acts stands caller alone (Ran (denoted q) start result) old new →
+      Acts stands caller alone (RunsTimed clause q start result) old new
+  ran_timed clause q start result old new (inl is) h = subst (λ x. Acts stands caller alone (RunsTimed x q start result) old new) (sym is) h
+  ran_timed clause q start result old new (inr spans) h = subst (λ x. Acts stands caller alone (RunsTimed x q start result) old new) (sym spans.2) h
+
+  -- one with it is asked of its instant
+  pub shown_timed : (clause : Time) (t : ℕ) (q : Query) (start : ℕ) (result : Result Rows Stop) (old new : S) → clause ≡ time.Snapshot t → running old ≡ Some start →
+      ShowsAt stands caller alone start t q old new result → Acts stands caller alone (RunsTimed clause q start result) old new
+  shown_timed clause t q start result old new at is h =
+      subst (λ x. Acts stands caller alone (RunsTimed x q start result) old new) (sym at) (shown t q start result old new is h)

@@ -1,28 +1,32 @@
 -- A query: what it asks of the store, and its reply.
-use Rattle.std.specs.Prelude.{◌≡◌, ℕ, List, [], Option, Some, None, Bool, true, false, codes, Result, Ok, Err}
-use Rattle.cypher_check.specs.Verdict.{is_timed, verdict}
+use Rattle.std.specs.Prelude.{◌≡◌, ◌<◌, ℕ, List, [], Option, Some, None, Bool, true, false, codes, Result, Ok, Err}
+use Rattle.cypher_check.specs.Verdict.{is_between, verdict}
 use Rattle.cypher_parse.specs.Whole.{IsParse}
 use Rattle.cypher_syntax.specs.declared.tree.query.Query.{Query}
+use Rattle.cypher_syntax.specs.declared.tree.query.Time.{Time}
+use Rattle.cypher_syntax.specs.declared.tree.query.Time.TheVariants as time
 use Rattle.graph_reader.specs.declared.shown.Shown.{Shown}
 use Rattle.graph_record.specs.Graph.{Graph}
 use Rattle.query_reply.specs.declared.fault.Fault.{Fault}
 use Rattle.query_reply.specs.Faults.{IsExamined, fault_text}
 use Rattle.query_reply.specs.Stops.{stop_text}
 use Rattle.query_run.specs.declared.stop.Stop.{Stop}
+use Rattle.query_run.specs.declared.stop.Stop.TheVariants.{TimeAhead}
 use Rattle.query_run.specs.Denoted.{denoted}
+use Rattle.query_run.specs.Instant.{IsOn}
 use Rattle.query_run.specs.Parts.{Part, Told, told, went}
 use Rattle.query_run.specs.Running.{StopsBy, answers_of, asks_of, may_all_come}
 use Rattle.session_core.specs.declared.reply.Answered.{Answered}
 use Rattle.session_core.specs.Replying.{GivesUp, IsCommit, Refuses, Tells}
-use Rattle.session_core.specs.Says.{Or, Says, Sent, Then}
+use Rattle.session_core.specs.Says.{Nothing, Or, Says, Sent, Then}
 use Rattle.session_core.specs.Texts.{no_memory_text, not_begun_text, rows_text}
 use Rattle.undo_delta.specs.declared.ask.Ask.{Ask}
 use Rattle.world_model.specs.declared.answer.Refused.{Refused}
 use Rattle.world_model.specs.declared.event.Event.TheVariants as event
-use Rattle.world_model.specs.declared.event.When.TheVariants.{Own}
+use Rattle.world_model.specs.declared.event.When.TheVariants.{At, Own}
 use Rattle.world_model.specs.History.{Entry, run}
 use Rattle.world_model.specs.Reply as reply
-use Rattle.world_model.specs.Sending.{IsSeen}
+use Rattle.world_model.specs.Sending.{IsSeen, are_beside}
 use Rattle.world_model.specs.World.{Start, start_world}
 
 abbrev pub Rows : Type 0
@@ -47,15 +51,41 @@ pub record Ran {A : Type 0} (part : Part A) (start : ℕ) (result : Result A Sto
   pub runs : may_all_come false caller later ≡ true
   pub outcome : IsOutcome (part graph (answers_of caller later)) (asks_of caller later) result
 
+-- A query was asked of the graph that the commits up to an instant left, in the caller's transaction with this start: the
+-- caller has only read, and the result is what the query means on that graph.
+pub record ShownAt (q : Query) (t start : ℕ) (result : Result Rows Stop) (caller : ℕ) (s : Start) (es later : List Entry) : Type 0 where
+  pub graph : Graph
+  pub seen : IsSeen (run (start_world s) es) caller start (At t) graph
+  pub reads : are_beside false caller later ≡ true
+  pub outcome : IsOn q graph result
+
+-- The instant is past the start of the transaction, and nothing is sent.
+pub record IsAhead (t start : ℕ) (result : Result Rows Stop) (caller : ℕ) (s : Start) (es later : List Entry) : Type 0 where
+  pub past : start < t
+  pub refused : result ≡ Err (TimeAhead t start)
+  pub nothing : Nothing caller s es later
+
+abbrev pub Snapshots : ℕ → Query → ℕ → Result Rows Stop → Says
+Snapshots t q start result = Or (IsAhead t start result) (ShownAt q t start result)
+
+-- What is done for a query depends on its time clause. TT BETWEEN isn't answered yet: below it is refused before it is run.
+abbrev pub RunsTimed : Time → Query → ℕ → Result Rows Stop → Says
+RunsTimed time.None q start result = Ran (denoted q) start result
+RunsTimed (time.Snapshot t) q start result = Snapshots t q start result
+RunsTimed (time.Between t1 t2) q start result = Ran (denoted q) start result
+
+abbrev pub Runs : Query → ℕ → Result Rows Stop → Says
+Runs q start result = RunsTimed q.time q start result
+
 -- IN THE SESSION'S TRANSACTION
 
 abbrev pub ToldInside : ℕ → Answered → Result Rows Stop → Says
 ToldInside start a (Ok rows) = Tells (rows_text rows start) (Some start) a
 ToldInside start a (Err why) = Refuses (stop_text why) (Some start) a
 
-pub record AsksInside (part : Part Rows) (start : ℕ) (a : Answered) (caller : ℕ) (s : Start) (es later : List Entry) : Type 0 where
+pub record AsksInside (q : Query) (start : ℕ) (a : Answered) (caller : ℕ) (s : Start) (es later : List Entry) : Type 0 where
   pub result : Result Rows Stop
-  pub says : Then (Ran part start result) (ToldInside start a result) caller s es later
+  pub says : Then (Runs q start result) (ToldInside start a result) caller s es later
 
 -- IN A TRANSACTION OF ITS OWN
 
@@ -74,17 +104,17 @@ abbrev pub ToldOutside : Answered → Result Rows Stop → Says
 ToldOutside a (Ok rows) = Or (Commits rows a) (GivesUp no_memory_text a)
 ToldOutside a (Err why) = GivesUp (stop_text why) a
 
-pub record RunsOutside (part : Part Rows) (a : Answered) (start : ℕ) (caller : ℕ) (s : Start) (es later : List Entry) : Type 0 where
+pub record RunsOutside (q : Query) (a : Answered) (start : ℕ) (caller : ℕ) (s : Start) (es later : List Entry) : Type 0 where
   pub result : Result Rows Stop
-  pub says : Then (Ran part start result) (ToldOutside a result) caller s es later
+  pub says : Then (Runs q start result) (ToldOutside a result) caller s es later
 
-pub record AsksOutside (part : Part Rows) (a : Answered) (caller : ℕ) (s : Start) (es later : List Entry) : Type 0 where
+pub record AsksOutside (q : Query) (a : Answered) (caller : ℕ) (s : Start) (es later : List Entry) : Type 0 where
   pub start : ℕ
-  pub says : Then (Sent event.Begin (reply.Begun start)) (RunsOutside part a start) caller s es later
+  pub says : Then (Sent event.Begin (reply.Begun start)) (RunsOutside q a start) caller s es later
 
-abbrev pub Asks : Part Rows → Option ℕ → Answered → Says
-Asks part (Some start) a = AsksInside part start a
-Asks part None a = Or (HasNotBegun a) (AsksOutside part a)
+abbrev pub Asks : Query → Option ℕ → Answered → Says
+Asks q (Some start) a = AsksInside q start a
+Asks q None a = Or (HasNotBegun a) (AsksOutside q a)
 
 -- A STATEMENT
 
@@ -94,17 +124,17 @@ pub record HasFault (statement : List ℕ) (running : Option ℕ) (a : Answered)
   pub is : IsExamined statement (Err fault)
   pub says : Refuses (fault_text fault) running a caller s es later
 
--- A query without a time clause is run. One with a time clause isn't answered yet.
-abbrev pub AnswersQuery : Bool → Part Rows → Option ℕ → Answered → Says
-AnswersQuery true part running a = Refuses (codes "ERR 4 shape TT clause") running a
-AnswersQuery false part running a = Asks part running a
+-- A query is asked. One with TT BETWEEN isn't answered yet.
+abbrev pub AnswersQuery : Bool → Query → Option ℕ → Answered → Says
+AnswersQuery true q running a = Refuses (codes "ERR 4 shape TT clause") running a
+AnswersQuery false q running a = Asks q running a
 
 -- it is a query
 pub record IsQuery (statement : List ℕ) (running : Option ℕ) (a : Answered) (caller : ℕ) (s : Start) (es later : List Entry) : Type 0 where
   pub query : Query
   pub parsed : IsParse statement (Ok query)
   pub passes : verdict query ≡ None
-  pub says : AnswersQuery (is_timed query.time) (denoted query) running a caller s es later
+  pub says : AnswersQuery (is_between query.time) query running a caller s es later
 
 abbrev pub Queries : List ℕ → Option ℕ → Answered → Says
 Queries statement running a = Or (HasFault statement running a) (IsQuery statement running a)

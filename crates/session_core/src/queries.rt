@@ -4,7 +4,6 @@ ghost use Rattle.cypher_check.specs.Answer.{query_of};
 ghost use Rattle.cypher_check.specs.Verdict as rules;
 ghost use Rattle.query_reply.specs.Faults as faults;
 ghost use Rattle.query_reply.specs.Stops as stops;
-ghost use Rattle.query_run.specs.Denoted.{denoted};
 ghost use Rattle.session_core.specs.Asking as spec;
 ghost use Rattle.session_core.specs.Replying.{GivesUp, Refuses};
 ghost use Rattle.session_core.specs.Says.{Acts};
@@ -18,7 +17,7 @@ use cypher_check::Checked;
 use cypher_syntax::Time;
 use graph_value::Text;
 use query_reply::{Fault, ShownRow, examine, push_fault, push_stop};
-use query_run::{Rows, Stop, run};
+use query_run::{Rows, Stop, run, snapshot};
 use std::alloc::Global;
 use world_model::{GraphStore, Txn};
 
@@ -45,6 +44,26 @@ fn rows_text(alloc: Global, rows: &[ShownRow], at: u64) -> Result<String, NoMemo
     Ok(with_number(room, at))
 }
 
+/// A query is asked in its caller's open transaction, of what its time clause names.
+fn evaluate<S: GraphStore>(
+    rt: &S::Rt,
+    alloc: Global,
+    store: &mut S,
+    txn: &Txn,
+    checked: &Checked,
+) -> Result<Rows, Stop>
+    requires { S.running store.old ≡ Some txn.now.start }
+    ensures says { Acts S.stands S.caller S.alone
+        (spec.Runs (query_of checked.now) txn.now.start result) store.old store.new }
+    ensures stays { S.running store.new ≡ S.running store.old }
+{
+    match checked.time() {
+        Time::Snapshot(_) => snapshot(alloc, checked, rt, store, txn),
+        // TT BETWEEN isn't answered yet, and doesn't come here
+        Time::None | Time::Between(..) => run(alloc, checked, rt, store, txn),
+    }
+}
+
 /// A query in the session's transaction has stopped.
 fn stopped<S: GraphStore>(
     rt: &S::Rt,
@@ -64,7 +83,7 @@ fn stopped<S: GraphStore>(
     }
 }
 
-/// A query is run in the session's transaction.
+/// A query is asked in the session's transaction.
 fn ask_inside<S: GraphStore>(
     rt: &S::Rt,
     alloc: Global,
@@ -74,11 +93,11 @@ fn ask_inside<S: GraphStore>(
 ) -> Answered
     requires { S.running store.old ≡ Some start }
     ensures says { Acts S.stands S.caller S.alone
-        (spec.AsksInside (denoted (query_of checked.now)) start result) store.old store.new }
+        (spec.AsksInside (query_of checked.now) start result) store.old store.new }
     ensures open { S.running store.new ≡ result.running }
 {
     let txn = Txn::begun(start);
-    let ran = run(alloc, checked, rt, store, &txn);
+    let ran = evaluate(rt, alloc, store, &txn, checked);
     let _start = txn.end();
     match ran {
         Ok(rows) => {
@@ -139,17 +158,17 @@ fn run_in_own<S: GraphStore>(
 ) -> Answered
     requires { S.running store.old ≡ Some txn.start }
     ensures says { Acts S.stands S.caller S.alone
-        (spec.RunsOutside (denoted (query_of checked.now)) result txn.start)
+        (spec.RunsOutside (query_of checked.now) result txn.start)
         store.old store.new }
     ensures open { S.running store.new ≡ result.running }
 {
-    match run(alloc, checked, rt, store, &txn) {
+    match evaluate(rt, alloc, store, &txn, checked) {
         Ok(rows) => commit_rows(rt, alloc, store, txn, &rows),
         Err(why) => stopped_in_own(rt, alloc, store, txn, &why),
     }
 }
 
-/// A query is run in a transaction of its own.
+/// A query is asked in a transaction of its own.
 fn ask_outside<S: GraphStore>(
     rt: &S::Rt,
     alloc: Global,
@@ -158,7 +177,7 @@ fn ask_outside<S: GraphStore>(
 ) -> Answered
     requires { S.running store.old ≡ None }
     ensures says { Acts S.stands S.caller S.alone
-        (spec.Asks (denoted (query_of checked.now)) None result) store.old store.new }
+        (spec.Asks (query_of checked.now) None result) store.old store.new }
     ensures open { S.running store.new ≡ result.running }
 {
     match store.begin(rt, alloc) {
@@ -176,7 +195,7 @@ fn ask<S: GraphStore>(
 ) -> Answered
     requires { S.running store.old ≡ running }
     ensures says { Acts S.stands S.caller S.alone
-        (spec.Asks (denoted (query_of checked.now)) running result) store.old store.new }
+        (spec.Asks (query_of checked.now) running result) store.old store.new }
     ensures open { S.running store.new ≡ result.running }
 {
     match running {
@@ -185,10 +204,10 @@ fn ask<S: GraphStore>(
     }
 }
 
-fn is_timed(time: &Time) -> bool
-    ensures { result ≡ rules.is_timed time.now }
+fn is_between(time: &Time) -> bool
+    ensures { result ≡ rules.is_between time.now }
 {
-    !matches!(time, Time::None)
+    matches!(time, Time::Between(..))
 }
 
 fn answer_checked<S: GraphStore>(
@@ -200,11 +219,11 @@ fn answer_checked<S: GraphStore>(
 ) -> Answered
     requires { S.running store.old ≡ running }
     ensures says { Acts S.stands S.caller S.alone
-        (spec.AnswersQuery (rules.is_timed (query_of checked.now).time)
-        (denoted (query_of checked.now)) running result) store.old store.new }
+        (spec.AnswersQuery (rules.is_between (query_of checked.now).time)
+        (query_of checked.now) running result) store.old store.new }
     ensures open { S.running store.new ≡ result.running }
 {
-    if is_timed(checked.time()) {
+    if is_between(checked.time()) {
         refused(rt, alloc, store, running, "ERR 4 shape TT clause")
     } else {
         ask(rt, alloc, store, running, checked)

@@ -66,3 +66,24 @@ pub static STOPS: [Statement; 8] = [
     ("UNWIND 1 AS x RETURN x", "!type"),
     ("RETURN 9223372036854775807 + 1", "!overflow"),
 ];
+
+/// How many writes that change nothing come before the one that finds no memory; what [`QUIET`] comes to then; and what
+/// [`SEEN`] comes to behind it, in the same transaction.
+pub type WantRow = (u64, &'static str, &'static str);
+
+/// Three vertices to write to.
+pub static MADE: &str = "CREATE (:P {k: 1}), (:P {k: 2}), (:P {k: 3})";
+
+/// Each vertex is written twice: the first write changes nothing.
+pub static QUIET: &str = "MATCH (n:P) SET n.k = n.k, n.seen = true RETURN id(n), n.seen";
+
+/// Which of the vertices were written.
+pub static SEEN: &str = "MATCH (n:P) RETURN n.seen";
+
+/// What was written before stays, and nothing is written behind.
+pub static WANTS: [WantRow; 4] = [
+    (0, "!no memory", "[null] [null] [null]"),
+    (1, "!no memory", "[true] [null] [null]"),
+    (2, "!no memory", "[true] [true] [null]"),
+    (3, "[0,true] [1,true] [2,true]", "[true] [true] [true]"),
+];

@@ -3,10 +3,11 @@ ghost use Rattle.std.specs.Prelude.{◌≡◌};
 
 use cypher_check::{Checked, check};
 use cypher_parse::parse;
+use cypher_syntax::Time;
 use expr_eval::EvalRefused;
 use graph_reader::push_row_json;
 use graph_value::{NoMemory, Text};
-use query_run::{Rows, Stop, run};
+use query_run::{Rows, Stop, run, snapshot};
 use std::alloc::Global;
 use txn_manager::Rival;
 use world_model::{GraphStore, Txn};
@@ -57,6 +58,22 @@ fn stop_text(alloc: Global, why: Stop) -> Result<String, NoMemory> {
     }
 }
 
+/// A query with TT SNAPSHOT is asked of its instant.
+fn answer<S: GraphStore>(
+    alloc: Global,
+    checked: &Checked,
+    rt: &S::Rt,
+    store: &mut S,
+    txn: &Txn,
+) -> Result<Rows, Stop>
+    ensures stays { S.running store.new ≡ S.running store.old }
+{
+    match checked.time() {
+        Time::Snapshot(_) => snapshot(alloc, checked, rt, store, txn),
+        Time::None | Time::Between(..) => run(alloc, checked, rt, store, txn),
+    }
+}
+
 /// The rows of a statement, parted by spaces, or `!` and why it stopped.
 pub fn text_of<S: GraphStore>(
     alloc: Global,
@@ -70,7 +87,7 @@ pub fn text_of<S: GraphStore>(
     let Some(checked) = checked(alloc, statement)? else {
         return format!(in alloc; "no statement");
     };
-    match run(alloc, &checked, rt, store, txn) {
+    match answer(alloc, &checked, rt, store, txn) {
         Ok(rows) => rows_text(alloc, &rows),
         Err(why) => stop_text(alloc, why),
     }

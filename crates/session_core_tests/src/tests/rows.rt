@@ -65,12 +65,60 @@ pub static FAULTS: [Row; 10] = [
     (b"RETURN x", "ERR 3 unbound \"x\""),
     (b"RETURN 1 AS x, 2 AS x", "ERR 4 shape redeclared \"x\""),
     (b"CREATE (n) TT SNAPSHOT 1", "ERR 4 shape write under TT"),
-    (b"RETURN 1 AS x TT SNAPSHOT 1", "ERR 4 shape TT clause"),
+    (
+        b"MATCH (n) RETURN n.k AS k TT BETWEEN 1 AND 1",
+        "ERR 4 shape TT clause",
+    ),
     (b"BEGIN", "OK begin at 1"),
     (b"RETURN x", "ERR 3 unbound \"x\" (aborted)"),
     (b"\xff", "ERR 1 not UTF-8"),
     (b".now or never", "ERR 1 unknown command"),
     (b". now", "ERR 1 unknown command"),
+];
+
+/// Queries of an instant, in transactions of their own and in one that BEGIN has opened.
+pub static SNAPSHOTS: [Row; 20] = [
+    (b"CREATE (:P {k:1})", "OK 0 at 2"),
+    (b"MATCH (n:P) SET n.k = 2", "OK 0 at 4"),
+    (b"MATCH (n:P) RETURN n.k TT SNAPSHOT 0", "OK 0 at 5"),
+    (b"MATCH (n:P) RETURN n.k TT SNAPSHOT 3", "[1]\nOK 1 at 6"),
+    (b"MATCH (n:P) RETURN n.k TT SNAPSHOT 7", "[2]\nOK 1 at 7"),
+    // the reading of the clock at its begin is 8
+    (
+        b"MATCH (n:P) RETURN n.k TT SNAPSHOT 9",
+        "ERR 10 time ahead 9 start 8",
+    ),
+    (b"BEGIN", "OK begin at 9"),
+    (b"MATCH (n:P) SET n.k = 3", "OK 0 at 9"),
+    // what the transaction has written stands at no instant yet
+    (b"MATCH (n:P) RETURN n.k TT SNAPSHOT 9", "[2]\nOK 1 at 9"),
+    (b"MATCH (n:P) RETURN n.k", "[3]\nOK 1 at 9"),
+    (
+        b"MATCH (n:P) RETURN n TT SNAPSHOT 2",
+        "[{\"id\":0,\"labels\":[\"P\"],\"properties\":{\"k\":1}}]\nOK 1 at 9",
+    ),
+    (
+        b"MATCH (n:P) RETURN n.k TT SNAPSHOT 10",
+        "ERR 10 time ahead 10 start 9 (aborted)",
+    ),
+    (b"COMMIT", "ERR 12 no transaction"),
+    (b"MATCH (n:P) RETURN n.k", "[2]\nOK 1 at 10"),
+    // each reason ends the transaction
+    (b"BEGIN", "OK begin at 11"),
+    (
+        b"MATCH (n:P) RETURN n.k / 0 TT SNAPSHOT 2",
+        "ERR 7 zero divisor (aborted)",
+    ),
+    (
+        b"MATCH (n:P) RETURN n.k / 0 TT SNAPSHOT 2",
+        "ERR 7 zero divisor",
+    ),
+    (b"MATCH (n:P) RETURN n.k / 0 TT SNAPSHOT 1", "OK 0 at 13"),
+    (b"BEGIN", "OK begin at 14"),
+    (
+        b"UNWIND [1, 2] AS x RETURN sum(x) TT SNAPSHOT 14",
+        "[3]\nOK 1 at 14",
+    ),
 ];
 
 /// Commands, inside transactions and outside.
