@@ -14,5 +14,5 @@ mod stop;
 
 pub use instant::snapshot;
 pub use running::run;
-pub use shown::Rows;
+pub use shown::{Rows, value_shown};
 pub use stop::Stop;

@@ -12,7 +12,8 @@ use std::alloc::Global;
 /// The rows that a query gives, each with the values of its columns in order.
 pub type Rows = Items<Items<Shown>>;
 
-fn value_shown<G: GraphRead>(
+/// A value as the graph has it, each entity with its record. The first entity in it that isn't alive is gone.
+pub fn value_shown<G: GraphRead>(
     alloc: Global,
     value: &Value,
     graph: &mut G,

@@ -16,5 +16,6 @@ mod rows;
 mod sorting;
 mod unwinding;
 
+pub use made::item_values;
 pub use projection::project;
 pub use unwinding::unwind;

@@ -23,8 +23,8 @@ pub struct Made {
     pub values: List,
 }
 
-/// The values of the items in a row.
-fn item_values<G: GraphRead>(
+/// The values of the items in a row, left to right. The first refusal is the answer.
+pub fn item_values<G: GraphRead>(
     alloc: Global,
     items: &[Item],
     row: &Row,
