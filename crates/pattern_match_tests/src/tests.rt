@@ -12,7 +12,9 @@ use graph_value::{NoMemory, Text};
 use graphs::{Shape, graph};
 use pattern_match::{match_table, matches, tuples};
 use printed::{refusal, rows_text, tuples_text};
-use rows::{AHEAD, ASKED, BOUND, EDGES, KEPT, Kept, NAMES, OPTIONAL, PATHS, Tried, VERTICES};
+use rows::{
+    AHEAD, ASKED, BOUND, COUNTED, EDGES, IDS, KEPT, Kept, NAMES, OPTIONAL, PATHS, Tried, VERTICES,
+};
 use std::alloc::Global;
 use std::test::Fail;
 
@@ -131,14 +133,18 @@ fn rows_found(
     }
 }
 
-fn rows_of(alloc: Global, clause: &str, bound: &str) -> Result<String, NoMemory> {
-    let mut graph = graph(alloc, Shape::Pair)?;
+fn rows_of(
+    alloc: Global,
+    clause: &str,
+    bound: &str,
+    graph: &mut CountingReader,
+) -> Result<String, NoMemory> {
     let table = table(alloc, bound)?;
     let Some(query) = query_of(alloc, clause)? else {
         return String::from_str(alloc, "no query");
     };
     match clause_of(&query) {
-        Some(clause) => rows_found(alloc, clause, &table, &mut graph),
+        Some(clause) => rows_found(alloc, clause, &table, graph),
         None => String::from_str(alloc, "no clause"),
     }
 }
@@ -146,7 +152,8 @@ fn rows_of(alloc: Global, clause: &str, bound: &str) -> Result<String, NoMemory>
 /// The first clause that makes other rows.
 fn first_other(alloc: Global, tried: &[Kept]) -> Result<Option<&'static str>, NoMemory> {
     for (bound, clause, wanted) in tried {
-        let found = rows_of(alloc, clause, bound)?;
+        let mut graph = graph(alloc, Shape::Pair)?;
+        let found = rows_of(alloc, clause, bound, &mut graph)?;
         if found.as_str() != *wanted {
             return Ok(Some(*clause));
         }
@@ -195,6 +202,32 @@ fn first_not_asked(alloc: Global) -> Result<Option<&'static str>, NoMemory> {
 #[test]
 fn a_bound_pattern_asks_little_and_may_want_memory(rt: HostRuntime) -> Result<(), Fail> {
     let wrong = first_not_asked(rt.alloc())?;
+    assert!(rt; wrong.is_none(), "{wrong:?}");
+    Ok(())
+}
+
+#[test]
+fn rows_of_ids(rt: HostRuntime) -> Result<(), Fail> {
+    let wrong = first_other(rt.alloc(), &IDS)?;
+    assert!(rt; wrong.is_none(), "{wrong:?}");
+    Ok(())
+}
+
+fn first_not_counted(alloc: Global) -> Result<Option<&'static str>, NoMemory> {
+    for (shape, clause, wanting, wanted, asked) in COUNTED.iter() {
+        let mut graph = graph(alloc, *shape)?;
+        graph.wanting = *wanting;
+        let found = rows_of(alloc, clause, "", &mut graph)?;
+        if found.as_str() != *wanted || graph.asked != *asked {
+            return Ok(Some(*clause));
+        }
+    }
+    Ok(None)
+}
+
+#[test]
+fn an_id_asks_as_little_of_many_vertices(rt: HostRuntime) -> Result<(), Fail> {
+    let wrong = first_not_counted(rt.alloc())?;
     assert!(rt; wrong.is_none(), "{wrong:?}");
     Ok(())
 }

@@ -28,6 +28,8 @@ pub(crate) enum Shape {
     Town,
     /// Fifty vertices, of which five have edges.
     Wide,
+    /// `v1`, and a vertex whose number is no integer.
+    Far,
 }
 
 static LOOPS: [VertexRow; 1] = [("A", 1)];
@@ -180,6 +182,21 @@ fn reader(
     })
 }
 
+/// Vertices with no edges, of these numbers.
+fn vertices_at(alloc: Global, numbers: &[u64]) -> Result<CountingReader, NoMemory> {
+    let mut vertices = Items::new(alloc);
+    for number in numbers {
+        let id = VertexId(*number);
+        vertices.push((id, vertex(alloc, id, &("A", 1), &[])?))?;
+    }
+    Ok(CountingReader {
+        vertices,
+        edges: Items::new(alloc),
+        asked: 0,
+        wanting: 0,
+    })
+}
+
 pub(crate) fn graph(alloc: Global, shape: Shape) -> Result<CountingReader, NoMemory> {
     match shape {
         Shape::Empty => reader(alloc, &[], &[]),
@@ -189,5 +206,6 @@ pub(crate) fn graph(alloc: Global, shape: Shape) -> Result<CountingReader, NoMem
         Shape::Ring => reader(alloc, &RING, &RING_EDGES),
         Shape::Town => reader(alloc, &TOWN, &TOWN_EDGES),
         Shape::Wide => reader(alloc, &WIDE, &WIDE_EDGES),
+        Shape::Far => vertices_at(alloc, &[1, 9_223_372_036_854_775_808]),
     }
 }

@@ -1,5 +1,5 @@
 //! Patterns on small graphs, and what matches them, worked out by hand.
-use crate::tests::graphs::Shape::{self, Double, Empty, Loops, Pair, Ring, Town, Wide};
+use crate::tests::graphs::Shape::{self, Double, Empty, Far, Loops, Pair, Ring, Town, Wide};
 
 /// A graph, the names that are bound before, a pattern, and its tuples, or a refusal behind `!`.
 pub(crate) type Tried = (Shape, &'static str, &'static str, &'static str);
@@ -338,4 +338,102 @@ pub(crate) static ASKED: [Asked; 20] = [
     (Wide, "p=v5", "(a)-[e]->(p)", 0, "", 1),
     (Wide, "f=e4", "(a)-[f]->(b)", 0, "[40,4,9]", 4),
     (Wide, "f=e4", "(a)-[f]->(b)", 1, "!no memory", 1),
+];
+
+/// Vertices whose ids WHERE asks for.
+pub(crate) static IDS: [Kept; 27] = [
+    ("", "MATCH (n) WHERE id(n) = 1", "{\"n\":\"v1\"}"),
+    ("", "MATCH (n) WHERE 1 = id(n)", "{\"n\":\"v1\"}"),
+    ("", "MATCH (n) WHERE id(n) = 7", ""),
+    ("", "MATCH (n) WHERE id(n) = -1", ""),
+    ("", "MATCH (n:A) WHERE id(n) = 1", ""),
+    ("", "MATCH (n) WHERE id(n) <> 0", "{\"n\":\"v1\"}"),
+    ("", "MATCH (n) WHERE id(n) = 1 = 1", "{\"n\":\"v1\"}"),
+    ("", "MATCH (n), (n) WHERE id(n) = 1", "{\"n\":\"v1\"}"),
+    ("", "MATCH ()-[e]->() WHERE id(e) = 0", "{\"e\":\"e0\"}"),
+    ("", "MATCH ()-[e]->() WHERE id(e) = 1", ""),
+    (
+        "",
+        "MATCH (a)-[e]->(b) WHERE id(b) = 1",
+        "{\"a\":\"v0\",\"e\":\"e0\",\"b\":\"v1\"}",
+    ),
+    ("", "MATCH (a)-[e]->(b) WHERE id(b) = 0", ""),
+    (
+        "",
+        "MATCH (a), (b) WHERE id(a) = 0 AND id(b) = 1",
+        "{\"a\":\"v0\",\"b\":\"v1\"}",
+    ),
+    (
+        "",
+        "MATCH (a), (b) WHERE id(b) = 0 AND 1 = id(a) AND a.k = 2",
+        "{\"a\":\"v1\",\"b\":\"v0\"}",
+    ),
+    (
+        "",
+        "MATCH (n) WHERE id(n) = 0 AND id(n) = 0",
+        "{\"n\":\"v0\"}",
+    ),
+    ("", "MATCH (n) WHERE id(n) = 0 AND id(n) = 1", ""),
+    (
+        "",
+        "MATCH (n) WHERE id(n) = 0 OR id(n) = 1",
+        "{\"n\":\"v0\"} {\"n\":\"v1\"}",
+    ),
+    (
+        "",
+        "MATCH (n) WHERE id(n) = 0 AND 1/(n.k - 2) < 0",
+        "{\"n\":\"v0\"}",
+    ),
+    (
+        "",
+        "MATCH (n) WHERE 1/(n.k - 2) < 0 AND id(n) = 0",
+        "!zero divisor",
+    ),
+    ("", "MATCH (n) WHERE id(n) = 0 AND n.k", "!type"),
+    ("p=v0", "MATCH (p) WHERE id(p) = 1", ""),
+    (
+        "p=v0",
+        "MATCH (p)-[]->(b) WHERE id(p) = 0",
+        "{\"p\":\"v0\",\"b\":\"v1\"}",
+    ),
+    (
+        "p=v0",
+        "MATCH (n) WHERE id(p) = 0",
+        "{\"p\":\"v0\",\"n\":\"v0\"} {\"p\":\"v0\",\"n\":\"v1\"}",
+    ),
+    ("x=5", "MATCH (n) WHERE id(x) = 5", "!type"),
+    (
+        "p=v0;p=v1",
+        "MATCH (n) WHERE id(n) = 1",
+        "{\"p\":\"v0\",\"n\":\"v1\"} {\"p\":\"v1\",\"n\":\"v1\"}",
+    ),
+    ("", "OPTIONAL MATCH (n) WHERE id(n) = 1", "{\"n\":\"v1\"}"),
+    ("", "OPTIONAL MATCH (n) WHERE id(n) = 7", "{\"n\":null}"),
+];
+
+/// A graph, a clause, the call of the reader that finds no memory, the rows, and how often the reader was asked.
+pub(crate) type Counted = (Shape, &'static str, u64, &'static str, u64);
+
+/// One id costs as much on many vertices as on few. Where a number is no integer, its id is refused.
+pub(crate) static COUNTED: [Counted; 8] = [
+    (Pair, "MATCH (n) WHERE id(n) = 1", 0, "{\"n\":\"v1\"}", 2),
+    (Wide, "MATCH (n) WHERE id(n) = 1", 0, "{\"n\":\"v1\"}", 2),
+    (Wide, "MATCH (n) WHERE id(n) = 1", 1, "!no memory", 1),
+    (Wide, "MATCH (n) WHERE id(n) = 1", 2, "!no memory", 2),
+    (Wide, "MATCH (n) WHERE id(n) = 99", 0, "", 2),
+    (
+        Pair,
+        "MATCH (a), (b) WHERE id(a) = 1 AND id(b) = 0",
+        0,
+        "{\"a\":\"v1\",\"b\":\"v0\"}",
+        3,
+    ),
+    (
+        Wide,
+        "MATCH (a), (b) WHERE id(a) = 1 AND id(b) = 0",
+        0,
+        "{\"a\":\"v1\",\"b\":\"v0\"}",
+        3,
+    ),
+    (Far, "MATCH (n) WHERE id(n) = 1", 0, "!overflow", 4),
 ];
