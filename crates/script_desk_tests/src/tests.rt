@@ -8,7 +8,7 @@ use rows::{NAMES, RIVALS, Row};
 use script_desk::Desk;
 use std::alloc::Global;
 use std::test::Fail;
-use stories::{ACCOUNTS, PERMISSIONS};
+use stories::{ACCOUNTS, AUDIT, PERMISSIONS};
 
 /// The first line that is answered otherwise, with its reply.
 fn first_wrong(alloc: Global, desk: &mut Desk, rows: &[Row]) -> Result<Option<String>, NoMemory> {
@@ -75,7 +75,7 @@ fn push_replies(alloc: Global, desk: &mut Desk, script: &str) -> Result<String, 
 
 #[test]
 fn stories_are_answered_so(rt: HostRuntime) -> Result<(), Fail> {
-    for (script, wanted) in [ACCOUNTS, PERMISSIONS] {
+    for (script, wanted) in [ACCOUNTS, PERMISSIONS, AUDIT] {
         assert_eq!(rt; replies(rt.alloc(), script)?.as_str(), wanted);
     }
     Ok(())

@@ -1,6 +1,6 @@
 -- A query that was run on a store, as an act.
 use Rattle.std.proofs.Common.{◌≡◌, ◌<◌, ◌≤◌, ◌⊎◌, ℕ, List, [], ◌∷◌, Option, Some, None, Bool, true, false, not, cond, refl, sym, ap, subst, ◌∙◌, append-nil, arith, inl, inr}
-use Rattle.std.specs.Prelude.{Result, Ok, Err, nat_eq, nat_lt, option_map}
+use Rattle.std.specs.Prelude.{Result, Ok, Err, IsSomeAnd, nat_eq, nat_lt, option_map}
 use Rattle.std.proofs.lemmas.Bool.{cases_lt}
 use Rattle.std.proofs.lemmas.Bool.Decides.{nat_tests}
 use Rattle.collector.specs.Whole.{own_of}
@@ -9,20 +9,23 @@ use Rattle.cypher_syntax.specs.declared.tree.query.Query.{Query}
 use Rattle.cypher_syntax.specs.declared.tree.query.Time.{Time}
 use Rattle.cypher_syntax.specs.declared.tree.query.Time.TheVariants as time
 use Rattle.query_run.specs.declared.stop.Stop.{Stop}
+use Rattle.query_run.specs.declared.stop.Stop.TheVariants.{TimeAhead}
 use Rattle.query_run.specs.Denoted.{denoted}
 use Rattle.query_run.specs.Instant.{ShowsAt}
 use Rattle.query_run.specs.Parts.{Part, given}
 use Rattle.query_run.specs.Running.{Goes, Runs, Stops, answers_of, asks_of, is_running, may_all_come, may_come}
 use Rattle.query_run.proofs.ReadCalls.{comes_beside}
-use Rattle.session_core.specs.Asking.{IsAhead, Ran, Rows, RunsTimed, ShownAt, Snapshots}
-use Rattle.session_core.specs.Says.{Acts, Nothing}
+use Rattle.session_core.specs.Asking.{Finds, FoundIn, IsAhead, Ran, Rows, RunsTimed, ShownAt, Snapshots, Spans}
+use Rattle.session_core.specs.Says.{Acts, Nothing, Says}
 use Rattle.session_core.proofs.Acting.{idles, one, other, says_so}
+use Rattle.tt_clauses.specs.Between.{Asked, IsMeantBy, asked_in}
+use Rattle.tt_clauses.specs.Recalling as Recalling
 use Rattle.world_model.specs.declared.answer.Refused.{Refused}
 use Rattle.world_model.specs.declared.answer.Refused.TheVariants as refused
 use Rattle.world_model.specs.declared.event.When.{When}
 use Rattle.world_model.specs.declared.event.When.TheVariants.{At, Own}
 use Rattle.world_model.specs.History.{Entry, run}
-use Rattle.world_model.specs.Sending.{IsSeen, are_beside, is_beside, is_reading, open_start}
+use Rattle.world_model.specs.Sending.{IsSeen, OnlyReads, are_beside, is_beside, is_reading, open_start}
 use Rattle.world_model.specs.Views.{graph_of, time_ahead}
 use Rattle.world_model.specs.World.{Start, Txn, World, start_world, txn_of}
 use Rattle.world_model.proofs.Folds.{and_left_true, and_right_true, both_true}
@@ -96,6 +99,25 @@ not_past t n why h = ap (λ b. cond b (Some why) None) is
     is : nat_lt n t ≡ false
     is = grind (arith, nat_tests)
 
+-- the graphs at the instants up to the start of the caller's open transaction
+record Recalled (w : World) (c start : ℕ) : Type 0 where
+  graphs : ℕ → Graph
+  seen : (t : ℕ) → t ≤ start → IsSeen w c start (At t) (graphs t)
+
+recalled : (w : World) (c start : ℕ) → open_start w c ≡ Some start → Recalled w c start
+recalled w c start h =
+    let found = started (txn_of w c) start h in
+    record {
+      graphs = λ t. graph_of w found.0 (At t);
+      seen = λ t early. record {
+        txn = found.0;
+        found = found.1;
+        began = found.2;
+        there = not_past t found.0.start (refused.TimeAhead t found.0.start) (subst (λ n. t ≤ n) (sym found.2) early);
+        graph = refl;
+      };
+    }
+
 -- ---- the act
 
 module _ {S : Type 0} (stands : S → Start → List Entry → Type 0) (caller : S → ℕ) (alone : S → Bool) (running : S → Option ℕ)
@@ -156,38 +178,51 @@ module _ {S : Type 0} (stands : S → Start → List Entry → Type 0) (caller :
   ran part start (Ok value) old new is h = comes part start value old new is h
   ran part start (Err why) old new is h = halts part start why old new is h
 
-  -- a query of an instant that isn't past the start of the caller's open transaction
-  shown_at : (t : ℕ) (q : Query) (start : ℕ) (result : Result Rows Stop) (old new : S) → t ≤ start → running old ≡ Some start →
-      ShowsAt stands caller alone start t q old new result → Acts stands caller alone (ShownAt q t start result) old new
-  shown_at t q start result old new early is h = record {
+  -- the caller has only read, and by each history something is said of the answer
+  only_reads : (says : Says) (old new : S) → OnlyReads stands caller alone old new →
+      ((s : Start) (es later : List Entry) → stands old s es → are_beside false (caller old) later ≡ true → says (caller old) s es later) →
+      Acts stands caller alone says old new
+  only_reads says old new reads said = record {
     adds = λ s es st.
-        let see = seen_by start (At t) old (λ p at. not_past t p.start (refused.TimeAhead t p.start) (subst (λ n. t ≤ n) (sym at) early)) is s es st in
-        let on = h.reads.goes_on s es st in
+        let on = reads.goes_on s es st in
         let later = on.1.later in
         record {
           later = later;
           stood = subst (stands new s) on.1.parts on.2;
           nobody = all_own_alone (alone old) (caller old) later (comes_beside (alone old) (caller old) later on.1.beside);
-          said = record {
-            graph = see.graph;
-            seen = see.seen;
-            reads = all_beside (alone old) (caller old) later on.1.beside;
-            outcome = h.on see.graph (record { begin = s; entries = es; stood = st; seen = see.seen });
-          };
+          said = said s es later st (all_beside (alone old) (caller old) later on.1.beside);
         };
-    same_caller = h.reads.same_caller;
-    same_alone = h.reads.same_alone;
+    same_caller = reads.same_caller;
+    same_alone = reads.same_alone;
   }
+
+  -- the instant is past the start, and the store is as it was
+  ahead : (t start : ℕ) (result : Result Rows Stop) (old new : S) → start < t → result ≡ Err (TimeAhead t start) → new ≡ old →
+      Acts stands caller alone (IsAhead t start result) old new
+  ahead t start result old new late told untouched =
+      subst (λ store. Acts stands caller alone (IsAhead t start result) old store) (sym untouched)
+      (says_so stands caller alone Nothing (IsAhead t start result) old old
+      (λ c s es later x. record { past = late; refused = told; nothing = x })
+      (idles stands caller alone old))
+
+  -- a query of an instant that isn't past the start of the caller's open transaction
+  shown_at : (t : ℕ) (q : Query) (start : ℕ) (result : Result Rows Stop) (old new : S) → t ≤ start → running old ≡ Some start →
+      ShowsAt stands caller alone start t q old new result → Acts stands caller alone (ShownAt q t start result) old new
+  shown_at t q start result old new early is h = only_reads (ShownAt q t start result) old new h.reads (λ s es later st beside.
+      let see = seen_by start (At t) old (λ p at. not_past t p.start (refused.TimeAhead t p.start) (subst (λ n. t ≤ n) (sym at) early)) is s es st in
+      record {
+        graph = see.graph;
+        seen = see.seen;
+        reads = beside;
+        outcome = h.on see.graph (record { begin = s; entries = es; stood = st; seen = see.seen });
+      })
 
   -- one that is
   shown_ahead : (t : ℕ) (q : Query) (start : ℕ) (result : Result Rows Stop) (old new : S) → start < t →
       ShowsAt stands caller alone start t q old new result → Acts stands caller alone (IsAhead t start result) old new
   shown_ahead t q start result old new late h =
-      let ahead = h.ahead late in
-      subst (λ store. Acts stands caller alone (IsAhead t start result) old store) (sym ahead.untouched)
-      (says_so stands caller alone Nothing (IsAhead t start result) old old
-      (λ c s es later x. record { past = late; refused = ahead.told; nothing = x })
-      (idles stands caller alone old))
+      let past = h.ahead late in
+      ahead t start result old new late past.told past.untouched
 
   pub shown : (t : ℕ) (q : Query) (start : ℕ) (result : Result Rows Stop) (old new : S) → running old ≡ Some start →
       ShowsAt stands caller alone start t q old new result → Acts stands caller alone (Snapshots t q start result) old new
@@ -198,14 +233,50 @@ module _ {S : Type 0} (stands : S → Start → List Entry → Type 0) (caller :
       by (inl late) = one stands caller alone (IsAhead t start result) (ShownAt q t start result) old new (shown_ahead t q start result old new late h)
       by (inr early) = other stands caller alone (IsAhead t start result) (ShownAt q t start result) old new (shown_at t q start result old new early is h)
 
-  -- a query without TT SNAPSHOT is run
-  pub ran_timed : (clause : Time) (q : Query) (start : ℕ) (result : Result Rows Stop) (old new : S) →
-      (clause ≡ time.None) ⊎ ((t : ℕ) × (u : ℕ) × (clause ≡ time.Between t u)) → Acts stands caller alone (Ran (denoted q) start result) old new →
-      Acts stands caller alone (RunsTimed clause q start result) old new
-  ran_timed clause q start result old new (inl is) h = subst (λ x. Acts stands caller alone (RunsTimed x q start result) old new) (sym is) h
-  ran_timed clause q start result old new (inr spans) h = subst (λ x. Acts stands caller alone (RunsTimed x q start result) old new) (sym spans.2) h
+  -- a query of a span that doesn't end past the start of the caller's open transaction
+  found_in : (asked : Asked) (start : ℕ) (result : Result Rows Stop) (old new : S) → running old ≡ Some start →
+      Recalling.Tells stands caller alone start (λ graphs. IsMeantBy graphs asked) old new result → Acts stands caller alone (FoundIn asked start result) old new
+  found_in asked start result old new is h = only_reads (FoundIn asked start result) old new h.reads (λ s es later st beside.
+      let past = recalled (run (start_world s) es) (caller old) start (runs old s es st ∙ is) in
+      record {
+        graphs = past.graphs;
+        seen = past.seen;
+        reads = beside;
+        meant = h.answers past.graphs (record { begin = s; entries = es; stood = st; seen = past.seen });
+      })
 
-  -- one with it is asked of its instant
+  module _ (q : Query) (start : ℕ) (result : Result Rows Stop) (old new : S) where
+    abbrev Ahead : Asked → Type 0
+    Ahead asked = start < asked.last → (result ≡ Err (TimeAhead asked.last start)) × (new ≡ old)
+
+    abbrev Told : Asked → Type 0
+    Told asked = asked.last ≤ start → Recalling.Tells stands caller alone start (λ graphs. IsMeantBy graphs asked) old new result
+
+    finds : (asked : Asked) → running old ≡ Some start → Ahead asked → Told asked → Acts stands caller alone (Finds asked start result) old new
+    finds asked is past told = by (cases_lt start asked.last)
+      where
+        by : (start < asked.last) ⊎ (asked.last ≤ start) → Acts stands caller alone (Finds asked start result) old new
+        by (inl late) = one stands caller alone (IsAhead asked.last start result) (FoundIn asked start result) old new (ahead asked.last start result old new late (past late).0 (past late).1)
+        by (inr early) = other stands caller alone (IsAhead asked.last start result) (FoundIn asked start result) old new (found_in asked start result old new is (told early))
+
+    pub spans : (o : Option Asked) → asked_in q ≡ o → running old ≡ Some start → IsSomeAnd o Ahead → IsSomeAnd o Told → Acts stands caller alone (Spans q start result) old new
+    spans None there is past told = absurd past
+    spans (Some asked) there is past told =
+        says_so stands caller alone (Finds asked start result) (Spans q start result) old new
+        (λ c s es later x. record { asked = asked; is = there; says = x })
+        (finds asked is past told)
+
+  -- a query without a time clause is run
+  pub ran_timed : (clause : Time) (q : Query) (start : ℕ) (result : Result Rows Stop) (old new : S) → clause ≡ time.None →
+      Acts stands caller alone (Ran (denoted q) start result) old new → Acts stands caller alone (RunsTimed clause q start result) old new
+  ran_timed clause q start result old new is h = subst (λ x. Acts stands caller alone (RunsTimed x q start result) old new) (sym is) h
+
+  -- one of a span is asked of it
+  pub spans_timed : (clause : Time) (first last : ℕ) (q : Query) (start : ℕ) (result : Result Rows Stop) (old new : S) → clause ≡ time.Between first last →
+      Acts stands caller alone (Spans q start result) old new → Acts stands caller alone (RunsTimed clause q start result) old new
+  spans_timed clause first last q start result old new is h = subst (λ x. Acts stands caller alone (RunsTimed x q start result) old new) (sym is) h
+
+  -- one of an instant is asked of it
   pub shown_timed : (clause : Time) (t : ℕ) (q : Query) (start : ℕ) (result : Result Rows Stop) (old new : S) → clause ≡ time.Snapshot t → running old ≡ Some start →
       ShowsAt stands caller alone start t q old new result → Acts stands caller alone (RunsTimed clause q start result) old new
   shown_timed clause t q start result old new at is h =

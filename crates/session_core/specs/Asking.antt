@@ -1,6 +1,6 @@
 -- A query: what it asks of the store, and its reply.
-use Rattle.std.specs.Prelude.{◌≡◌, ◌<◌, ℕ, List, [], Option, Some, None, Bool, true, false, codes, Result, Ok, Err}
-use Rattle.cypher_check.specs.Verdict.{is_between, verdict}
+use Rattle.std.specs.Prelude.{◌≡◌, ◌<◌, ◌≤◌, ℕ, List, [], Option, Some, None, true, false, Result, Ok, Err}
+use Rattle.cypher_check.specs.Verdict.{verdict}
 use Rattle.cypher_parse.specs.Whole.{IsParse}
 use Rattle.cypher_syntax.specs.declared.tree.query.Query.{Query}
 use Rattle.cypher_syntax.specs.declared.tree.query.Time.{Time}
@@ -19,7 +19,8 @@ use Rattle.query_run.specs.Running.{StopsBy, answers_of, asks_of, may_all_come}
 use Rattle.session_core.specs.declared.reply.Answered.{Answered}
 use Rattle.session_core.specs.Replying.{GivesUp, IsCommit, Refuses, Tells}
 use Rattle.session_core.specs.Says.{Nothing, Or, Says, Sent, Then}
-use Rattle.session_core.specs.Texts.{no_memory_text, not_begun_text, rows_text}
+use Rattle.session_core.specs.Texts.{no_memory_text, not_begun_text, range_text, rows_text}
+use Rattle.tt_clauses.specs.Between.{Asked, IsMeantBy, asked_in, fault_of}
 use Rattle.undo_delta.specs.declared.ask.Ask.{Ask}
 use Rattle.world_model.specs.declared.answer.Refused.{Refused}
 use Rattle.world_model.specs.declared.event.Event.TheVariants as event
@@ -68,11 +69,28 @@ pub record IsAhead (t start : ℕ) (result : Result Rows Stop) (caller : ℕ) (s
 abbrev pub Snapshots : ℕ → Query → ℕ → Result Rows Stop → Says
 Snapshots t q start result = Or (IsAhead t start result) (ShownAt q t start result)
 
--- What is done for a query depends on its time clause. TT BETWEEN isn't answered yet: below it is refused before it is run.
+-- A query was asked of the graphs that the commits up to each instant of a span left, in the caller's transaction with this
+-- start: the caller has only read, and the result is what the query means on those graphs.
+pub record FoundIn (asked : Asked) (start : ℕ) (result : Result Rows Stop) (caller : ℕ) (s : Start) (es later : List Entry) : Type 0 where
+  pub graphs : ℕ → Graph
+  pub seen : (t : ℕ) → t ≤ start → IsSeen (run (start_world s) es) caller start (At t) (graphs t)
+  pub reads : are_beside false caller later ≡ true
+  pub meant : IsMeantBy graphs asked result
+
+abbrev pub Finds : Asked → ℕ → Result Rows Stop → Says
+Finds asked start result = Or (IsAhead asked.last start result) (FoundIn asked start result)
+
+-- the query is of a span, and was asked of it
+pub record Spans (q : Query) (start : ℕ) (result : Result Rows Stop) (caller : ℕ) (s : Start) (es later : List Entry) : Type 0 where
+  pub asked : Asked
+  pub is : asked_in q ≡ Some asked
+  pub says : Finds asked start result caller s es later
+
+-- What is done for a query depends on its time clause.
 abbrev pub RunsTimed : Time → Query → ℕ → Result Rows Stop → Says
 RunsTimed time.None q start result = Ran (denoted q) start result
 RunsTimed (time.Snapshot t) q start result = Snapshots t q start result
-RunsTimed (time.Between t1 t2) q start result = Ran (denoted q) start result
+RunsTimed (time.Between first last) q start result = Spans q start result
 
 abbrev pub Runs : Query → ℕ → Result Rows Stop → Says
 Runs q start result = RunsTimed q.time q start result
@@ -124,17 +142,17 @@ pub record HasFault (statement : List ℕ) (running : Option ℕ) (a : Answered)
   pub is : IsExamined statement (Err fault)
   pub says : Refuses (fault_text fault) running a caller s es later
 
--- A query is asked. One with TT BETWEEN isn't answered yet.
-abbrev pub AnswersQuery : Bool → Query → Option ℕ → Answered → Says
-AnswersQuery true q running a = Refuses (codes "ERR 4 shape TT clause") running a
-AnswersQuery false q running a = Asks q running a
+-- A query is asked, unless the first instant of its span is greater than the last. That is told before a transaction begins.
+abbrev pub AnswersQuery : Option (ℕ × ℕ) → Query → Option ℕ → Answered → Says
+AnswersQuery (Some (first, last)) q running a = Refuses (range_text first last) running a
+AnswersQuery None q running a = Asks q running a
 
 -- it is a query
 pub record IsQuery (statement : List ℕ) (running : Option ℕ) (a : Answered) (caller : ℕ) (s : Start) (es later : List Entry) : Type 0 where
   pub query : Query
   pub parsed : IsParse statement (Ok query)
   pub passes : verdict query ≡ None
-  pub says : AnswersQuery (is_between query.time) query running a caller s es later
+  pub says : AnswersQuery (fault_of query.time) query running a caller s es later
 
 abbrev pub Queries : List ℕ → Option ℕ → Answered → Says
 Queries statement running a = Or (HasFault statement running a) (IsQuery statement running a)

@@ -35,6 +35,10 @@ swept_text s =
 abbrev pub rows_text : List (List Shown) → ℕ → List ℕ
 rows_text rows at = (row_lines rows ++ (codes "OK " ++ decimal (length rows) ++ codes " at ")) ++ decimal at
 
+-- why a span is refused whose first instant is the greater one
+abbrev pub range_text : ℕ → ℕ → List ℕ
+range_text first last = codes "ERR 11 bad range " ++ decimal first ++ codes " " ++ decimal last
+
 -- Why no transaction begins. The other refusals are none of a begin.
 abbrev pub not_begun_text : Refused → List ℕ
 not_begun_text refused.AlreadyOpen = codes "ERR 13 already open"

@@ -1,24 +1,25 @@
 //! Queries: inside the session's transaction, or in one of their own.
 ghost use Rattle.std.specs.Prelude.{◌≡◌, IfOk, Ok, Err, None, Some, string_bytes};
 ghost use Rattle.cypher_check.specs.Answer.{query_of};
-ghost use Rattle.cypher_check.specs.Verdict as rules;
 ghost use Rattle.query_reply.specs.Faults as faults;
 ghost use Rattle.query_reply.specs.Stops as stops;
 ghost use Rattle.session_core.specs.Asking as spec;
 ghost use Rattle.session_core.specs.Replying.{GivesUp, Refuses};
 ghost use Rattle.session_core.specs.Says.{Acts};
 ghost use Rattle.session_core.specs.Texts as texts;
+ghost use Rattle.tt_clauses.specs.Between.{fault_of};
 
 use crate::NoMemory;
 use crate::refusing::{given_up, refused, told, wanting, wanting_in_own};
 use crate::reply::Answered;
-use crate::texts::{not_begun_text, rows_room, with_number};
+use crate::texts::{not_begun_text, range_text, rows_room, with_number};
 use cypher_check::Checked;
 use cypher_syntax::Time;
 use graph_value::Text;
 use query_reply::{Fault, ShownRow, examine, push_fault, push_stop};
 use query_run::{Rows, Stop, run, snapshot};
 use std::alloc::Global;
+use tt_clauses::{between, range_fault};
 use world_model::{GraphStore, Txn};
 
 fn fault_text(alloc: Global, why: &Fault) -> Result<String, NoMemory>
@@ -52,15 +53,16 @@ fn evaluate<S: GraphStore>(
     txn: &Txn,
     checked: &Checked,
 ) -> Result<Rows, Stop>
-    requires { S.running store.old ≡ Some txn.now.start }
+    requires begun { S.running store.old ≡ Some txn.now.start }
+    requires span { fault_of (query_of checked.now).time ≡ None }
     ensures says { Acts S.stands S.caller S.alone
         (spec.Runs (query_of checked.now) txn.now.start result) store.old store.new }
     ensures stays { S.running store.new ≡ S.running store.old }
 {
     match checked.time() {
+        Time::None => run(alloc, checked, rt, store, txn),
         Time::Snapshot(_) => snapshot(alloc, checked, rt, store, txn),
-        // TT BETWEEN isn't answered yet, and doesn't come here
-        Time::None | Time::Between(..) => run(alloc, checked, rt, store, txn),
+        Time::Between(..) => between(alloc, checked, rt, store, txn),
     }
 }
 
@@ -91,7 +93,8 @@ fn ask_inside<S: GraphStore>(
     start: u64,
     checked: &Checked,
 ) -> Answered
-    requires { S.running store.old ≡ Some start }
+    requires begun { S.running store.old ≡ Some start }
+    requires span { fault_of (query_of checked.now).time ≡ None }
     ensures says { Acts S.stands S.caller S.alone
         (spec.AsksInside (query_of checked.now) start result) store.old store.new }
     ensures open { S.running store.new ≡ result.running }
@@ -156,7 +159,8 @@ fn run_in_own<S: GraphStore>(
     txn: Txn,
     checked: &Checked,
 ) -> Answered
-    requires { S.running store.old ≡ Some txn.start }
+    requires begun { S.running store.old ≡ Some txn.start }
+    requires span { fault_of (query_of checked.now).time ≡ None }
     ensures says { Acts S.stands S.caller S.alone
         (spec.RunsOutside (query_of checked.now) result txn.start)
         store.old store.new }
@@ -175,7 +179,8 @@ fn ask_outside<S: GraphStore>(
     store: &mut S,
     checked: &Checked,
 ) -> Answered
-    requires { S.running store.old ≡ None }
+    requires begun { S.running store.old ≡ None }
+    requires span { fault_of (query_of checked.now).time ≡ None }
     ensures says { Acts S.stands S.caller S.alone
         (spec.Asks (query_of checked.now) None result) store.old store.new }
     ensures open { S.running store.new ≡ result.running }
@@ -193,7 +198,8 @@ fn ask<S: GraphStore>(
     running: Option<u64>,
     checked: &Checked,
 ) -> Answered
-    requires { S.running store.old ≡ running }
+    requires begun { S.running store.old ≡ running }
+    requires span { fault_of (query_of checked.now).time ≡ None }
     ensures says { Acts S.stands S.caller S.alone
         (spec.Asks (query_of checked.now) running result) store.old store.new }
     ensures open { S.running store.new ≡ result.running }
@@ -204,10 +210,24 @@ fn ask<S: GraphStore>(
     }
 }
 
-fn is_between(time: &Time) -> bool
-    ensures { result ≡ rules.is_between time.now }
+/// A query whose span is no span: its first instant is the greater one.
+fn out_of_range<S: GraphStore>(
+    rt: &S::Rt,
+    alloc: Global,
+    store: &mut S,
+    running: Option<u64>,
+    first: u64,
+    last: u64,
+) -> Answered
+    requires { S.running store.old ≡ running }
+    ensures says { Acts S.stands S.caller S.alone
+        (Refuses (texts.range_text first last) running result) store.old store.new }
+    ensures open { S.running store.new ≡ result.running }
 {
-    matches!(time, Time::Between(..))
+    match range_text(alloc, first, last) {
+        Ok(text) => refused(rt, alloc, store, running, text.as_str()),
+        Err(_) => wanting(rt, alloc, store, running),
+    }
 }
 
 fn answer_checked<S: GraphStore>(
@@ -219,14 +239,13 @@ fn answer_checked<S: GraphStore>(
 ) -> Answered
     requires { S.running store.old ≡ running }
     ensures says { Acts S.stands S.caller S.alone
-        (spec.AnswersQuery (rules.is_between (query_of checked.now).time)
+        (spec.AnswersQuery (fault_of (query_of checked.now).time)
         (query_of checked.now) running result) store.old store.new }
     ensures open { S.running store.new ≡ result.running }
 {
-    if is_between(checked.time()) {
-        refused(rt, alloc, store, running, "ERR 4 shape TT clause")
-    } else {
-        ask(rt, alloc, store, running, checked)
+    match range_fault(checked) {
+        Some((first, last)) => out_of_range(rt, alloc, store, running, first, last),
+        None => ask(rt, alloc, store, running, checked),
     }
 }
 

@@ -107,6 +107,15 @@ pub fn swept_text(alloc: Global, swept: Swept) -> Result<String, NoMemory>
     Ok(text)
 }
 
+/// Why a span is refused whose first instant is the greater one.
+pub fn range_text(alloc: Global, first: u64, last: u64) -> Result<String, NoMemory>
+    ensures { IfOk result (λ t. string_bytes t ≡ spec.range_text first last) }
+{
+    let mut text = String::new(alloc);
+    write!(text, "ERR 11 bad range {first} {last}")?;
+    Ok(text)
+}
+
 /// Why no transaction begins.
 pub fn not_begun_text(why: Refused) -> &'static str
     ensures { result.now ≡ spec.not_begun_text why }

@@ -4,7 +4,7 @@ ghost use Rattle.std.specs.Prelude.{◌≡◌, None};
 
 use front_core::Core;
 use graph_value::NoMemory;
-use rows::{COMMANDS, FAULTS, LINES, QUERIES, Row, SNAPSHOTS, TRANSACTIONS};
+use rows::{COMMANDS, FAULTS, LINES, QUERIES, Row, SNAPSHOTS, SPANS, TRANSACTIONS};
 use session_core::Session;
 use std::alloc::Global;
 use std::test::Fail;
@@ -64,6 +64,13 @@ fn a_statement_with_a_fault_is_not_run(rt: HostRuntime) -> Result<(), Fail> {
 #[test]
 fn a_query_of_an_instant_sees_what_stood_then(rt: HostRuntime) -> Result<(), Fail> {
     let wrong = wrong_of(rt.alloc(), &SNAPSHOTS)?;
+    assert!(rt; wrong.is_none(), "{wrong:?}");
+    Ok(())
+}
+
+#[test]
+fn a_query_of_a_span_tells_since_when_and_until_when(rt: HostRuntime) -> Result<(), Fail> {
+    let wrong = wrong_of(rt.alloc(), &SPANS)?;
     assert!(rt; wrong.is_none(), "{wrong:?}");
     Ok(())
 }

@@ -125,3 +125,54 @@ audit: OK swept mark 23 moved 22 stale 0
 audit: OK chain 0 history 61 blocks 61
 "#,
 );
+
+/// Who could read what, when, and since when: `examples/audit.script`.
+pub static AUDIT: Story = (
+    r#"eva: CREATE (:User {name: 'Ada'}), (:User {name: 'Bo'}), (:Group {name: 'staff'}), (:Group {name: 'office'})
+eva: CREATE (:Resource {name: 'plans'}), (:Resource {name: 'wages'})
+eva: MATCH (g:Group {name: 'office'}), (r:Resource) CREATE (g)-[:MAY_READ]->(r)
+eva: MATCH (u:User), (g:Group {name: 'staff'}) CREATE (u)-[:MEMBER_OF]->(g)
+eva: MATCH (u:User {name: 'Bo'}), (g:Group {name: 'office'}) CREATE (u)-[:MEMBER_OF]->(g)
+eva: MATCH (g:Group {name: 'staff'}), (r:Resource {name: 'plans'}) CREATE (g)-[:MAY_READ]->(r)
+eva: MATCH (u:User {name: 'Bo'})-[m:MEMBER_OF]->(g:Group {name: 'office'}) DELETE m
+eva: MATCH (u:User {name: 'Bo'}), (g:Group {name: 'office'}) CREATE (u)-[:MEMBER_OF]->(g)
+eva: MATCH (r:Resource {name: 'wages'}) SET r.secret = true
+audit: .sweep
+audit: .now
+audit: MATCH (u:User)-[:MEMBER_OF]->(g)-[:MAY_READ]->(r:Resource {name: 'wages'}) RETURN u.name, g.name TT BETWEEN 1 AND 19
+audit: MATCH (u:User)-[:MEMBER_OF]->(g)-[:MAY_READ]->(r:Resource {name: 'plans'}) RETURN u.name, g.name TT BETWEEN 1 AND 20
+audit: MATCH (u:User)-[:MEMBER_OF]->(g)-[:MAY_READ]->(r) RETURN u.name, r.name, g.name TT SNAPSHOT 15
+audit: MATCH (r:Resource {name: 'wages'}) RETURN r.secret TT BETWEEN 3 AND 22
+audit: MATCH (r:Resource) RETURN r.name TT SNAPSHOT 99
+audit: MATCH (r:Resource) RETURN r.name TT BETWEEN 9 AND 3
+audit: .now"#,
+    r#"eva: OK 0 at 2
+eva: OK 0 at 4
+eva: OK 0 at 6
+eva: OK 0 at 8
+eva: OK 0 at 10
+eva: OK 0 at 12
+eva: OK 0 at 14
+eva: OK 0 at 16
+eva: OK 0 at 18
+audit: OK swept mark 19 moved 43 stale 0
+audit: OK now 19 mark 19
+audit: ["Bo","office",10,13]
+audit: ["Bo","office",16,19]
+audit: OK 2 at 19
+audit: ["Ada","staff",12,20]
+audit: ["Bo","staff",12,20]
+audit: ["Bo","office",10,13]
+audit: ["Bo","office",16,20]
+audit: OK 4 at 20
+audit: ["Ada","plans","staff"]
+audit: ["Bo","plans","staff"]
+audit: OK 2 at 21
+audit: [null,4,17]
+audit: [true,18,22]
+audit: OK 2 at 22
+audit: ERR 10 time ahead 99 start 23
+audit: ERR 11 bad range 9 3
+audit: OK now 24 mark 24
+"#,
+);

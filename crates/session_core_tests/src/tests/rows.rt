@@ -66,8 +66,8 @@ pub static FAULTS: [Row; 10] = [
     (b"RETURN 1 AS x, 2 AS x", "ERR 4 shape redeclared \"x\""),
     (b"CREATE (n) TT SNAPSHOT 1", "ERR 4 shape write under TT"),
     (
-        b"MATCH (n) RETURN n.k AS k TT BETWEEN 1 AND 1",
-        "ERR 4 shape TT clause",
+        b"MATCH (n) RETURN count(n) TT BETWEEN 0 AND 1",
+        "ERR 4 shape not a TT BETWEEN query",
     ),
     (b"BEGIN", "OK begin at 1"),
     (b"RETURN x", "ERR 3 unbound \"x\" (aborted)"),
@@ -119,6 +119,44 @@ pub static SNAPSHOTS: [Row; 20] = [
         b"UNWIND [1, 2] AS x RETURN sum(x) TT SNAPSHOT 14",
         "[3]\nOK 1 at 14",
     ),
+];
+
+/// Queries of a span, in transactions of their own and in one that BEGIN has opened.
+pub static SPANS: [Row; 14] = [
+    (b"CREATE (n:P {k:1})", "OK 0 at 2"),
+    (b"MATCH (n:P) SET n.k = 2", "OK 0 at 4"),
+    (
+        b"MATCH (n:P) RETURN n.k TT BETWEEN 0 AND 5",
+        "[1,2,3]\n[2,4,5]\nOK 2 at 5",
+    ),
+    (
+        b"MATCH (n:P) RETURN n.k TT BETWEEN 3 AND 4",
+        "[1,3,3]\n[2,4,4]\nOK 2 at 6",
+    ),
+    // no transaction begins for what is no span
+    (
+        b"MATCH (n) RETURN n TT BETWEEN 9 AND 2",
+        "ERR 11 bad range 9 2",
+    ),
+    (b".now", "OK now 7 mark 7"),
+    (b"BEGIN", "OK begin at 7"),
+    (b"MATCH (n:P) SET n.k = 3", "OK 0 at 7"),
+    // what the transaction has written stands at no instant yet
+    (
+        b"MATCH (n:P) RETURN n.k TT BETWEEN 5 AND 7",
+        "[2,5,7]\nOK 1 at 7",
+    ),
+    (
+        b"MATCH (n:P) RETURN n.k TT BETWEEN 5 AND 8",
+        "ERR 10 time ahead 8 start 7 (aborted)",
+    ),
+    (b"BEGIN", "OK begin at 8"),
+    (
+        b"MATCH (n:P) RETURN n.k TT BETWEEN 9 AND 8",
+        "ERR 11 bad range 9 8 (aborted)",
+    ),
+    (b"COMMIT", "ERR 12 no transaction"),
+    (b"MATCH (n:P) RETURN n.k", "[2]\nOK 1 at 9"),
 ];
 
 /// Commands, inside transactions and outside.
