@@ -6,10 +6,10 @@
 #   connect    two vertices are found by a property each, and an edge is made between them
 #   update     a vertex is found by a property, and another property of it is set
 #   label      the vertices of a label that none has are counted: a scan
-#   id         a vertex is asked for by its id in WHERE: a scan as well today, since it is a condition like any other
+#   id         a vertex is asked for by its id in WHERE
 #   bound      a pattern from a vertex that the statement has at hand
 #
-# The growth of create and bound should be about 1; that of the others is as that of the graph. Below stand costs beside
+# The growth of create, id and bound should be about 1; that of the others is as that of the graph. Below stand costs beside
 # one another, each by that of its first column:
 #
 #   rows       so many rows in a reply, for each row
@@ -57,7 +57,7 @@ persons() {
 count_of() {
     case "$1" in
         create) echo 20000 ;;
-        bound) echo 5000 ;;
+        id | bound) echo 5000 ;;
         *) echo $((400000 / $2 > 10 ? 400000 / $2 : 10)) ;;
     esac
 }
