@@ -213,12 +213,22 @@ fn rows_of_ids(rt: HostRuntime) -> Result<(), Fail> {
     Ok(())
 }
 
+fn is_counted(
+    alloc: Global,
+    graph: &mut CountingReader,
+    clause: &str,
+    wanted: &str,
+    asked: u64,
+) -> Result<bool, NoMemory> {
+    let found = rows_of(alloc, clause, "", graph)?;
+    Ok(found.as_str() == wanted && graph.asked == asked)
+}
+
 fn first_not_counted(alloc: Global) -> Result<Option<&'static str>, NoMemory> {
     for (shape, clause, wanting, wanted, asked) in COUNTED.iter() {
         let mut graph = graph(alloc, *shape)?;
         graph.wanting = *wanting;
-        let found = rows_of(alloc, clause, "", &mut graph)?;
-        if found.as_str() != *wanted || graph.asked != *asked {
+        if !is_counted(alloc, &mut graph, clause, wanted, *asked)? {
             return Ok(Some(*clause));
         }
     }

@@ -435,5 +435,6 @@ pub(crate) static COUNTED: [Counted; 8] = [
         "{\"a\":\"v1\",\"b\":\"v0\"}",
         3,
     ),
-    (Far, "MATCH (n) WHERE id(n) = 1", 0, "!overflow", 4),
+    // one look ahead, three steps through the vertices, and each of the two is looked at
+    (Far, "MATCH (n) WHERE id(n) = 1", 0, "!overflow", 6),
 ];
