@@ -3,13 +3,15 @@
 #
 #   near       one vertex as of an instant among the ten newest versions, by how many versions it has
 #   far        the same, as of an instant anywhere among its versions
-#   swept near, swept far    the same behind a whole sweep, when the versions stand in the history
+#   swept-near, swept-far    the same behind a whole sweep, when the versions stand in the history
 #   hops       a pattern of two hops over 10,000 vertices: now, as of the newest instant, as of one before a change of each
 #              vertex, and the same behind a sweep
-#   span       TT BETWEEN over so many instants
+#   span       TT BETWEEN over so many instants of a vertex with 1,000 versions, the newest instants
+#   swept-span the same behind a whole sweep
 #
 # Each number is a cost by that of its first column. `near` and both behind a sweep should be about 1; `far` walks the chain
-# from the newest version on. `hops` should stay below 2, and `span` grows as the number of instants.
+# from the newest version on. `hops` should stay below 2. `swept-span` grows as the number of instants; `span` reads each
+# version through the newer ones of the chain besides.
 # Build the program first, by bin/aeong or by `rt ci` at the top. All comes from one run; the numbers decide nothing.
 set -euo pipefail
 cd "$(dirname "$0")/.."
@@ -89,10 +91,12 @@ spans() {
 
 lengths=(10 100 1000)
 heading instants "${lengths[@]}"
-costs=()
-for length in "${lengths[@]}"; do
-    versions_of 1000 >"$room/before"
-    spans "$length" >"$room/measured"
-    costs+=("$(time_of "$room/before" "$room/measured")")
+for swept in : sweep; do
+    costs=()
+    for length in "${lengths[@]}"; do
+        { versions_of 1000; $swept; } >"$room/before"
+        spans "$length" >"$room/measured"
+        costs+=("$(time_of "$room/before" "$room/measured")")
+    done
+    if [ "$swept" = sweep ]; then row swept-span "${costs[@]}"; else row span "${costs[@]}"; fi
 done
-row span "${costs[@]}"
